@@ -1,0 +1,13 @@
+pub mod Lawfulness
+pub mod Places
+pub mod Filed
+pub mod RoundTrip
+pub mod LeafBytes
+pub mod LeafPairs
+pub mod LeafTest
+pub mod PageEntries
+pub mod PageBooks
+pub mod Opened
+pub mod Written
+pub mod LineParts
+pub mod Widths

@@ -1,0 +1,9 @@
+pub mod Entries
+pub mod Readings
+pub mod Filing
+pub mod Balances
+pub mod Stores
+pub mod Leaf
+pub mod Pages
+pub mod Lines
+pub mod Writing
