@@ -8,6 +8,7 @@ pub mod LeafTest
 pub mod PageEntries
 pub mod PageBooks
 pub mod Opened
+pub mod BookEntries
 pub mod Written
 pub mod LineParts
 pub mod Widths

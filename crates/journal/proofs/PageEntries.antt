@@ -52,3 +52,9 @@ entries-last (suc n) xs leaf h l =
     ap (λ (cs : List ℕ). entryOn cs ∷ entriesOn (suc n) (drop 160 (xs ++ leaf))) (take-append-le 160 xs leaf w)
     ∙ ap (λ (cs : List ℕ). entryOn (take 160 xs) ∷ entriesOn (suc n) cs) (drop-append-le 160 xs leaf w)
     ∙ ap (λ (es : List Posted). entryOn (take 160 xs) ∷ es) rest
+
+-- where an entry stands, there is a leaf in use
+pub nth-within : (n k : ℕ) (bs : List ℕ) (e : Posted) → nth (entriesOn n bs) k ≡ Some e → k < n
+nth-within zero k bs e h = absurd (let z : _≡_ {A = ℕ} 0 1 = cc in omega arith)
+nth-within (suc n) zero bs e h = omega arith
+nth-within (suc n) (suc k) bs e h = omega (arith, nth-within n k (drop 160 bs) e h)
