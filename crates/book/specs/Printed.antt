@@ -12,9 +12,9 @@ use Rattle.std.specs.declared.result.Result.the-variants.{Ok, Err}
 use Rattle.journal.specs.Entries.{Posted}
 use Rattle.journal.specs.Balances.{lastGiven}
 use Rattle.journal.specs.Lines.{entryLine}
-use Rattle.journal.specs.Pages.{entriesOn, bookNumber, bookLeaf, BookChecked}
+use Rattle.leaves.specs.Pages.{entriesOn, bookNumber, bookLeaf, BookChecked}
 use Rattle.journal.specs.declared.balances.Given.{Given}
-use Rattle.journal.specs.declared.book_check.BookRefusal.{BookRefusal}
+use Rattle.leaves.specs.declared.book_check.BookRefusal.{BookRefusal}
 
 -- n texts, one after the other
 unfoldable pub inTurn : (ℕ → List ℕ) → ℕ → List ℕ

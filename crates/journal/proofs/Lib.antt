@@ -1,14 +1,6 @@
 pub mod Lawfulness
 pub mod Places
 pub mod Filed
-pub mod RoundTrip
-pub mod LeafBytes
-pub mod LeafPairs
-pub mod LeafTest
-pub mod PageEntries
-pub mod PageBooks
-pub mod Opened
-pub mod BookEntries
 pub mod Written
 pub mod LineParts
 pub mod Widths

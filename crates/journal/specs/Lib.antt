@@ -2,8 +2,6 @@ pub mod Entries
 pub mod Readings
 pub mod Filing
 pub mod Balances
-pub mod Stores
-pub mod Leaf
-pub mod Pages
 pub mod Lines
 pub mod Writing
+pub mod Stores

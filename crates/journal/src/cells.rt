@@ -16,7 +16,6 @@ use crate::entry::Entry;
 use crate::entry::Pair;
 use crate::entry::PostingId;
 use crate::entry::is_entry;
-use crate::entry::pairs_of;
 use crate::entry::value_for;
 use crate::journals::FilingRefusal;
 use crate::journals::Journal;
@@ -94,21 +93,21 @@ pub impl<'a> Reading for Cells<'a> as CellsReading {
 
     fn count(&self, k: usize) -> Option<usize> {
         match self.record(k) {
-            Some(e) => Some(pairs_of(e).len()),
+            Some(e) => Some(e.counted_pairs().len()),
             None => None,
         }
     }
 
     fn pair(&self, k: usize, j: usize) -> Option<Pair> {
         match self.record(k) {
-            Some(e) => pairs_of(e).get(j).copied(),
+            Some(e) => e.counted_pairs().get(j).copied(),
             None => None,
         }
     }
 
     fn given(&self, k: usize, account: u8) -> Option<i64> {
         match self.record(k) {
-            Some(e) => value_for(pairs_of(e), account),
+            Some(e) => value_for(e.counted_pairs(), account),
             None => None,
         }
     }

@@ -45,16 +45,18 @@ pub struct Entry {
     pub pairs: [Pair; MAX_PAIRS],
 }
 
-// The pairs that count.
-pub(crate) fn pairs_of(e: &Entry) -> &[Pair]
-    ensures value { λ r. ⌜ now r ≡ posted (now (e .entry)) .pairs ⌝ }
-    ensures few { λ r. ⌜ length (now r) ≤ 16 ⌝ }
-{
-    let count = e.count as usize;
-    if count <= MAX_PAIRS {
-        &e.pairs[..count]
-    } else {
-        &e.pairs
+impl Entry {
+    // The pairs that count.
+    pub fn counted_pairs(&self) -> &[Pair]
+        ensures value { λ r. ⌜ now r ≡ posted (now (self .entry)) .pairs ⌝ }
+        ensures few { λ r. ⌜ length (now r) ≤ 16 ⌝ }
+    {
+        let count = self.count as usize;
+        if count <= MAX_PAIRS {
+            &self.pairs[..count]
+        } else {
+            &self.pairs
+        }
     }
 }
 

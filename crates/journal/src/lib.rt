@@ -1,28 +1,18 @@
-// Journals: lists of entries that only grow, and what can be asked of them.
+// Journals: lists of entries that only grow, what can be asked of them, and one journal, in the host's records.
 mod balances;
-mod book_check;
-mod book_reading;
 mod cells;
-mod closed_book;
 mod entry;
 mod journals;
-mod leaf;
-mod leaves;
 mod lines;
-mod pages;
 
 pub use balances::ACCOUNTS;
 pub use balances::BalanceRefusal;
 pub use balances::Given;
 pub use balances::balance;
 pub use balances::last_given;
-pub use book_check::BookRefusal;
-pub use book_check::check_book;
-pub use book_reading::ClosedBookReading;
 pub use cells::Cells;
 pub use cells::CellsJournal;
 pub use cells::CellsReading;
-pub use closed_book::ClosedBook;
 pub use entry::Entry;
 pub use entry::MAX_PAIRS;
 pub use entry::Pair;
@@ -32,11 +22,6 @@ pub use journals::FilingRefusal;
 pub use journals::Journal;
 pub use journals::MAX_ENTRIES;
 pub use journals::Reading;
-pub use leaf::LEAF;
-pub use leaf::leaf_laws;
-pub use leaves::Leaves;
-pub use leaves::LeavesJournal;
-pub use leaves::LeavesReading;
 pub use lines::LONGEST_LINE;
 pub use lines::LineRefusal;
 pub use lines::entry_line;

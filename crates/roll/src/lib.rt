@@ -35,7 +35,7 @@ impl<'a, T: Copy> Roll<'a, T> {
     pub fn len(&self) -> usize
         ensures { λ r. ⌜ r ≡ length (items (now (self .entry))) ⌝ }
     {
-        self.used.min(self.cells.len())
+        self.used.min(self.capacity())
     }
 
     // How many items it can hold in all.
@@ -49,7 +49,7 @@ impl<'a, T: Copy> Roll<'a, T> {
     pub fn room(&self) -> usize
         ensures { λ r. ⌜ r ≡ length (unused (now (self .entry))) ⌝ }
     {
-        self.cells.len() - self.len()
+        self.capacity() - self.len()
     }
 
     // One more item at the end. A full roll stays as it is.

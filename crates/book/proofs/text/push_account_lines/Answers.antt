@@ -6,7 +6,7 @@ use lib.ListN.{length}
 use Rattle.std.specs.Of.Vec.{vec-items}
 use Rattle.std.specs.declared.option.Option.{Option}
 use Rattle.journal.specs.Balances.{lastGiven}
-use Rattle.journal.specs.Stores.{bookEntries}
+use Rattle.leaves.specs.Stores.{bookEntries}
 use Rattle.journal.specs.declared.balances.Given.{Given}
 use Rattle.book.specs.Printed.{inTurn, accountLine}
 use Rattle.book.proofs.BookLines.{in-turn-none, in-turn-more}

@@ -3,7 +3,7 @@ use mathlib.Core.List.{_++_}
 use lib.ListN.{length}
 use Rattle.std.specs.Of.Vec.{vec-items}
 use Rattle.journal.specs.Balances.{lastGiven}
-use Rattle.journal.specs.Stores.{bookEntries}
+use Rattle.leaves.specs.Stores.{bookEntries}
 use Rattle.book.specs.Printed.{inTurn, accountLine}
 use Rattle.book.proofs.text.push_account_lines.Given as given
 

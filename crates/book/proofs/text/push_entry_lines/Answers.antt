@@ -5,7 +5,7 @@ use native.Mathlib.Omega.{arith}
 use lib.ListN.{length}
 use Rattle.std.specs.Of.Vec.{vec-items}
 use Rattle.std.specs.shelf.Maps.{nth}
-use Rattle.journal.specs.Stores.{bookEntries}
+use Rattle.leaves.specs.Stores.{bookEntries}
 use Rattle.book.specs.Printed.{inTurn, lineOf}
 use Rattle.book.proofs.BookLines.{in-turn-none, in-turn-more}
 use Rattle.book.proofs.text.push_entry_lines.Needs as need

@@ -2,7 +2,7 @@ use mathlib.Core.Path.{_≡_}
 use mathlib.Core.List.{_++_}
 use Rattle.std.specs.Of.Vec.{vec-items}
 use Rattle.std.specs.shelf.Maps.{nth}
-use Rattle.journal.specs.Stores.{bookEntries}
+use Rattle.leaves.specs.Stores.{bookEntries}
 use Rattle.book.specs.Printed.{inTurn, lineOf}
 use Rattle.book.proofs.text.push_entry_lines.Given as given
 

@@ -1,8 +1,8 @@
 use mathlib.Core.Path.{_≡_, sym, ap, _∙_}
 use native.Mathlib.Omega.{arith}
 use Rattle.std.specs.shelf.Maps.{nth}
-use Rattle.journal.specs.Stores.{bookEntries}
-use Rattle.journal.proofs.BookEntries.{book-lawful}
+use Rattle.leaves.specs.Stores.{bookEntries}
+use Rattle.leaves.proofs.BookEntries.{book-lawful}
 use Rattle.book.proofs.BookLines.{line-there, line-none}
 use Rattle.book.proofs.text.write_line.Needs as need
 

@@ -10,5 +10,5 @@ pub returns-in-Some : need.returns-in-Some
 returns-in-Some c =
     c .copied .ensures
     ∙ item-nth _ (c .args .j) (c .get .result) (c .get .ensures .finds)
-    ∙ ap (λ (ps : List Pair). nth ps (c .args .j)) (c .pairs-of .ensures .value)
+    ∙ ap (λ (ps : List Pair). nth ps (c .args .j)) (c .counted-pairs .ensures .value)
     ∙ ap (pairOf (c .args .j)) (c .in-Some .ensures tt)

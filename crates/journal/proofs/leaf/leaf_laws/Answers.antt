@@ -1,6 +1,0 @@
-use mathlib.Core.Path.{refl}
-use Rattle.journal.proofs.RoundTrip.{reads-back, writes-back}
-use Rattle.journal.proofs.leaf.leaf_laws.Needs as need
-
-pub returns : need.returns
-returns c = record { bytes = refl; reads = reads-back; writes = writes-back }
