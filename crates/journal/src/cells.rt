@@ -16,7 +16,6 @@ use crate::entry::Entry;
 use crate::entry::Pair;
 use crate::entry::PostingId;
 use crate::entry::is_entry;
-use crate::entry::value_for;
 use crate::journals::FilingRefusal;
 use crate::journals::Journal;
 use crate::journals::MAX_ENTRIES;
@@ -107,7 +106,7 @@ pub impl<'a> Reading for Cells<'a> as CellsReading {
 
     fn given(&self, k: usize, account: u8) -> Option<i64> {
         match self.record(k) {
-            Some(e) => value_for(e.counted_pairs(), account),
+            Some(e) => e.value_for(account),
             None => None,
         }
     }

@@ -45,6 +45,18 @@ pub struct Entry {
     pub pairs: [Pair; MAX_PAIRS],
 }
 
+// The value in the pair with this account.
+fn value_in(pairs: &[Pair], account: u8) -> Option<i64>
+    ensures { λ r. ⌜ r ≡ givenIn (now (pairs .entry)) account ⌝ }
+{
+    for pair in pairs {
+        if pair.account == account {
+            return Some(pair.value);
+        }
+    }
+    None
+}
+
 impl Entry {
     // The pairs that count.
     pub fn counted_pairs(&self) -> &[Pair]
@@ -58,21 +70,17 @@ impl Entry {
             &self.pairs
         }
     }
-}
 
-// The value in the pair with this account.
-pub(crate) fn value_for(pairs: &[Pair], account: u8) -> Option<i64>
-    ensures { λ r. ⌜ r ≡ givenIn (now (pairs .entry)) account ⌝ }
-{
-    for pair in pairs {
-        if pair.account == account {
-            return Some(pair.value);
-        }
+    // The value that it gives the account.
+    pub fn value_for(&self, account: u8) -> Option<i64>
+        ensures { λ r. ⌜ r ≡ givenIn (posted (now (self .entry)) .pairs) account ⌝ }
+    {
+        value_in(self.counted_pairs(), account)
     }
-    None
 }
 
-fn in_range(cents: i64) -> bool
+// Whether a value or a hand is within 10^15 cents of 0.
+pub fn in_range(cents: i64) -> bool
     ensures { λ r. ⌜ r ≡ inRange cents ⌝ }
 {
     cents.unsigned_abs() <= MOST_CENTS

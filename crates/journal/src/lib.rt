@@ -17,6 +17,7 @@ pub use entry::Entry;
 pub use entry::MAX_PAIRS;
 pub use entry::Pair;
 pub use entry::PostingId;
+pub use entry::in_range;
 pub use entry::is_entry;
 pub use journals::FilingRefusal;
 pub use journals::Journal;

@@ -21,7 +21,7 @@ returns-in-Ok c =
     let short : length xs < 4096 = omega (arith, c .length-length .ensures) in
     let all : length xs ≡ length (map posted (take 4096 xs)) = omega arith in
     record {
-      answer = filing-ok (c .args .e .now) (c .args .place) (length (cellEntries s)) (cellSize s) (c .if-not-is-entry .ensures tt .test) (c .if-place-length .left ∙ c .length-length .ensures) (omega arith);
+      answer = filing-ok (c .args .e .now) (c .args .place) (length (cellEntries s)) (cellSize s) (c .if-not-is-entry .ensures tt .test) (omega (arith, c .length-length .ensures)) (omega arith);
       entries = records-push xs _ (c .args .e .now) short (c .in-Ok .ensures tt .items);
       size = ap (λ (n : ℕ). min n 4096) (c .in-Ok .ensures tt .capacity);
       cells = c .in-Ok .ensures tt .cells ∙ ap (λ (n : ℕ). set (cellsOf r) n (c .args .e .now)) all;
@@ -35,7 +35,7 @@ returns-in-Err c =
     let long = length-records xs in
     let full = was-full _ _ _ (c .in-Err .ensures tt .answer) refl in
     record {
-      answer = filing-full (c .args .e .now) (c .args .place) (length (cellEntries s)) (cellSize s) (c .if-not-is-entry .ensures tt .test) (c .if-place-length .left ∙ c .length-length .ensures) (omega arith);
+      answer = filing-full (c .args .e .now) (c .args .place) (length (cellEntries s)) (cellSize s) (c .if-not-is-entry .ensures tt .test) (omega (arith, c .length-length .ensures)) (omega arith);
       entries = ap (λ (ys : List Entry). map posted (take 4096 ys)) (c .in-Err .ensures tt .items);
       size = ap (λ (n : ℕ). min n 4096) (c .in-Err .ensures tt .capacity);
       cells = c .in-Err .ensures tt .cells;

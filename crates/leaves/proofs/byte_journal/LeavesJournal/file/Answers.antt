@@ -43,7 +43,7 @@ returns c =
     let same : length after ≡ length bs = ap length put ∙ length-put bs leaf n ll room in
     let more : leavesUsed (n + 1) after ≡ n + 1 = omega arith in
     record {
-      answer = filing-ok e (c .args .place) (length (leafEntries s)) (leafSize s) (c .if-not-is-entry .ensures tt .test) (c .if-place-length .left ∙ c .length-length .ensures) (omega (arith, c .length-length .ensures));
+      answer = filing-ok e (c .args .place) (length (leafEntries s)) (leafSize s) (c .if-not-is-entry .ensures tt .test) (omega (arith, c .length-length .ensures)) (omega (arith, c .length-length .ensures));
       entries =
           ap (λ (k : ℕ). entriesOn k after) more
           ∙ ap (entriesOn (n + 1)) put

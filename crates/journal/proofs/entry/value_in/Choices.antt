@@ -1,7 +1,7 @@
 use mathlib.Core.Path.{_≡_}
 use lib.ListN.{drop}
 use Rattle.journal.specs.Readings.{givenIn}
-use Rattle.journal.proofs.entry.value_for.Given as given
+use Rattle.journal.proofs.entry.value_in.Given as given
 
 -- the account is in none of the pairs passed
 abbrev pub Inv-loop-pair : given.InvT-loop-pair

@@ -13,7 +13,7 @@ use Rattle.std.proofs.shelf.Tests.{eq-eqb, ne-eqb, cond-true, cond-false}
 use Rattle.journal.specs.Entries.{pairAt}
 use Rattle.journal.specs.Readings.{givenIn}
 use Rattle.journal.specs.declared.entry.Pair.{Pair}
-use Rattle.journal.proofs.entry.value_for.Needs as need
+use Rattle.journal.proofs.entry.value_in.Needs as need
 
 here : (ps : List Pair) (i a : ℕ) → i < length ps → pairAt ps i .account ≡ a → givenIn (drop i ps) a ≡ Some (pairAt ps i .value)
 here ps i a h e = at-drop-more (λ qs. givenIn qs a) ps i _ h ∙ cond-true (eqb (pairAt ps i .account) a) _ _ (eq-eqb _ _ e)
