@@ -6,8 +6,6 @@ ghost use Rattle.std.specs.Results.{isOk};
 ghost use Rattle.journal.specs.Entries.{posted};
 ghost use Rattle.journal.specs.Leaf.{leafOf};
 ghost use Rattle.journal.specs.Pages.{leafPut};
-use journal::Cells;
-use journal::CellsJournal;
 use journal::Entry;
 use journal::FilingRefusal;
 use journal::Journal;
@@ -22,14 +20,6 @@ pub fn push_two(cells: &mut [u32], first: u32, second: u32)
     let mut roll = Roll::new(cells);
     let _ = roll.push(first);
     let _ = roll.push(second);
-}
-
-// Files one entry. The first record holds it afterwards, and all others are as they were.
-pub fn file_in_cells(cells: &mut [Entry], e: &Entry) -> Result<(), FilingRefusal>
-    ensures { λ r. ⌜ now (cells .exit) ≡ cond (isOk r) (set (now (cells .entry)) 0 (now (e .entry))) (now (cells .entry)) ⌝ }
-{
-    let mut journal = Cells::new(cells);
-    journal.file(0, e)
 }
 
 // Files one entry. The first leaf is its leaf afterwards, and all other bytes are as they were.
