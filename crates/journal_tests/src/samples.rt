@@ -199,7 +199,10 @@ pub(crate) fn reads_back<R: Reading>(reading: &R, k: usize, e: &Entry) -> Result
 fn reads_pairs<R: Reading>(reading: &R, k: usize, e: &Entry) -> Result<(), Fail> {
     let mut values = [None; 256];
     for (j, pair) in e.pairs.iter().take(e.count as usize).enumerate() {
-        check_eq(parts_of_pair(reading.pair(k, j)), Some((pair.account, pair.value)))?;
+        check_eq(
+            parts_of_pair(reading.pair(k, j)),
+            Some((pair.account, pair.value)),
+        )?;
         values[pair.account as usize] = Some(pair.value);
     }
     for account in 0..=255u8 {
