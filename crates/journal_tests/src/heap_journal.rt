@@ -23,7 +23,7 @@ use std::alloc::AllocError;
 use std::alloc::Global;
 
 // The pairs that count.
-fn pairs_of(e: &Entry) -> &[Pair]
+pub(crate) fn pairs_of(e: &Entry) -> &[Pair]
     ensures { λ r. ⌜ now r ≡ posted (now (e .entry)) .pairs ⌝ }
 {
     let count = e.count as usize;
@@ -35,7 +35,7 @@ fn pairs_of(e: &Entry) -> &[Pair]
 }
 
 // The value in the pair with this account.
-fn value_for(pairs: &[Pair], account: u8) -> Option<i64>
+pub(crate) fn value_for(pairs: &[Pair], account: u8) -> Option<i64>
     ensures { λ r. ⌜ r ≡ givenIn (now (pairs .entry)) account ⌝ }
 {
     for pair in pairs {

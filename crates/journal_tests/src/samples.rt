@@ -1,4 +1,6 @@
 // Entries that the tests file, and what a reading has to answer for them.
+use crate::heap_journal::pairs_of;
+use crate::heap_journal::value_for;
 use journal::Entry;
 use journal::FilingRefusal;
 use journal::MAX_PAIRS;
@@ -142,17 +144,18 @@ pub(crate) enum Edit {
 }
 
 pub(crate) fn edited(edit: Edit) -> Entry {
+    let e = SAMPLE;
     match edit {
-        Edit::Nothing => SAMPLE,
-        Edit::House(house) => Entry { house, ..SAMPLE },
-        Edit::Number(number) => Entry { number, ..SAMPLE },
-        Edit::Hand(hand) => Entry { hand, ..SAMPLE },
+        Edit::Nothing => e,
+        Edit::House(house) => Entry { house, ..e },
+        Edit::Number(number) => Entry { number, ..e },
+        Edit::Hand(hand) => Entry { hand, ..e },
         Edit::Second(account, value) => with_second(Pair { account, value }),
         Edit::Counting(count) => Entry { count, ..LONGEST },
         Edit::Void(count) => Entry {
             void: true,
             count,
-            ..SAMPLE
+            ..e
         },
     }
 }
@@ -185,38 +188,37 @@ fn parts_of_pair(pair: Option<Pair>) -> Option<(u8, i64)> {
     }
 }
 
-// Every question about entry `k` has this entry's answer.
-pub(crate) fn reads_back<R: Reading>(reading: &R, k: usize, e: &Entry) -> Result<(), Fail> {
-    check_eq(parts_of_id(reading.identity(k)), Some((e.house, e.number)))?;
-    check_eq(reading.void(k), Some(e.void))?;
-    check_eq(reading.hand(k), Some(e.hand))?;
-    check_eq(reading.count(k), Some(e.count as usize))?;
-    check_eq(parts_of_pair(reading.pair(k, e.count as usize)), None)?;
-    check_eq(parts_of_pair(reading.pair(k, usize::MAX)), None)?;
-    reads_pairs(reading, k, e)
+// The house and the number, the void mark, the hand and the count that a reading tells of entry `k`.
+type Head = (Option<(u8, u32)>, Option<bool>, Option<i64>, Option<usize>);
+
+fn head_of<R: Reading>(reading: &R, k: usize) -> Head {
+    let id = parts_of_id(reading.identity(k));
+    (id, reading.void(k), reading.hand(k), reading.count(k))
 }
 
-fn reads_pairs<R: Reading>(reading: &R, k: usize, e: &Entry) -> Result<(), Fail> {
-    let mut values = [None; 256];
-    for (j, pair) in e.pairs.iter().take(e.count as usize).enumerate() {
-        check_eq(
-            parts_of_pair(reading.pair(k, j)),
-            Some((pair.account, pair.value)),
-        )?;
-        values[pair.account as usize] = Some(pair.value);
-    }
-    for account in 0..=255u8 {
-        check_eq(reading.given(k, account), values[account as usize])?;
-    }
-    Ok(())
+// Every question about entry `k` has this entry's answer.
+pub(crate) fn reads_back<R: Reading>(reading: &R, k: usize, e: &Entry) -> Result<(), Fail> {
+    let pairs = pairs_of(e);
+    let id = Some((e.house, e.number));
+    check_eq(
+        head_of(reading, k),
+        (id, Some(e.void), Some(e.hand), Some(pairs.len())),
+    )?;
+    reads_pairs(reading, k, pairs)
 }
 
 // No question about entry `k` has an answer.
 pub(crate) fn reads_none<R: Reading>(reading: &R, k: usize) -> Result<(), Fail> {
-    check_eq(parts_of_id(reading.identity(k)), None)?;
-    check_eq(reading.void(k), None)?;
-    check_eq(reading.hand(k), None)?;
-    check_eq(reading.count(k), None)?;
-    check_eq(parts_of_pair(reading.pair(k, 0)), None)?;
-    check_eq(reading.given(k, 5), None)
+    check_eq(head_of(reading, k), (None, None, None, None))?;
+    reads_pairs(reading, k, &[])
+}
+
+// Entry `k` has these pairs and no others: there is none at a later place or for another account.
+fn reads_pairs<R: Reading>(reading: &R, k: usize, pairs: &[Pair]) -> Result<(), Fail> {
+    for n in 0..=255u8 {
+        let pair = parts_of_pair(reading.pair(k, n as usize));
+        let expected = parts_of_pair(pairs.get(n as usize).copied());
+        check_eq((pair, reading.given(k, n)), (expected, value_for(pairs, n)))?;
+    }
+    Ok(())
 }

@@ -69,13 +69,16 @@ fn balances(rt: LibcRuntime) -> Result<(), Fail> {
     }
     for row in &BALANCES {
         let (account, k, refusal, value, place) = *row;
-        check_eq(balance_told(&journal, account, k), (refusal, value))?;
-        check_eq(place_of(last_given(&journal, account, k)), place)?;
+        let given = place_of(last_given(&journal, account, k));
+        check_eq(
+            (balance_told(&journal, account, k), given),
+            ((refusal, value), place),
+        )?;
     }
     let two = FirstEntries {
         reading: &journal,
         most: 2,
     };
-    check_eq(balance_told(&two, 63, 2), (0, -1))?;
-    check_eq(balance_told(&two, 63, 3), (42, 0))
+    let last = balance_told(&two, 63, 2);
+    check_eq((last, balance_told(&two, 63, 3)), ((0, -1), (42, 0)))
 }

@@ -262,10 +262,11 @@ fn file_four(bytes: &mut [u8]) -> Result<(), Fail> {
     for k in 0..4 {
         check_eq(number_of(journal.file(k, &sample(k))), 0)?;
     }
-    check_eq(journal.as_bytes().len(), 640)?;
-    check_eq(told(journal.as_bytes()), (0, 0))
+    let bytes = journal.as_bytes();
+    check_eq((bytes.len(), told(bytes)), (640, (0, 0)))
 }
 
+// The number of the refusal, or 0, and the broken leaf.
 fn told(bytes: &[u8]) -> (u8, usize) {
     match check_book(bytes) {
         Ok(()) => (0, 0),
@@ -273,11 +274,16 @@ fn told(bytes: &[u8]) -> (u8, usize) {
     }
 }
 
-fn opens(bytes: &[u8], entries: usize) -> Result<(), Fail> {
+// The length and the size of the book opened on these bytes.
+fn opened(bytes: &[u8]) -> (usize, usize) {
     let book = ClosedBook::open(bytes);
-    check_eq(book.length(), entries)?;
-    check_eq(book.size(), entries)?;
-    reads_none(&book, entries)
+    (book.length(), book.size())
+}
+
+fn put(bytes: &mut [u8], at: usize, byte: u8) {
+    if at < bytes.len() {
+        bytes[at] = byte;
+    }
 }
 
 #[test]
@@ -296,14 +302,17 @@ fn good_books() -> Result<(), Fail> {
     for row in &LENGTHS {
         let (length, refusal, entries) = *row;
         check(length <= 640)?;
-        check_eq(told(&bytes[0..length]), (refusal, 0))?;
-        opens(&bytes[0..length], entries)?;
+        let part = &bytes[0..length];
+        check_eq(
+            (told(part), opened(part)),
+            ((refusal, 0), (entries, entries)),
+        )?;
     }
     let book = ClosedBook::open(&bytes);
     for k in 0..4 {
         reads_back(&book, k, &sample(k))?;
     }
-    Ok(())
+    reads_none(&book, 4)
 }
 
 // Breaks the third of four leaves, byte by byte.
@@ -314,27 +323,26 @@ fn break_bytes(bytes: &mut [u8]) -> Result<(), Fail> {
         let at = 320 + place as usize;
         let kept = bytes[at];
         bytes[at] = byte;
-        if refusal == 0 {
-            check_eq(told(bytes), (0, 0)).note(place)?;
-            opens(bytes, 4)?;
-        } else {
-            check_eq(told(bytes), (refusal, 2)).note(place)?;
-            opens(bytes, 0)?;
-        }
+        let (leaf, entries) = if refusal == 0 { (0, 4) } else { (2, 0) };
+        check_eq(
+            (told(bytes), opened(bytes)),
+            ((refusal, leaf), (entries, entries)),
+        ).note(place)?;
         bytes[at] = kept;
     }
-    check_eq(told(bytes), (0, 0))
+    Ok(())
 }
 
-// Breaks the fourth leaf, the third and the second.
+// A place in a book of four leaves, a byte to put there besides those before, and the first broken leaf.
+static BREAKS: [(usize, u8, usize); 3] = [(483, 1, 3), (323, 1, 2), (161, 2, 1)];
+
 fn break_leaves(bytes: &mut [u8]) -> Result<(), Fail> {
+    for row in &BREAKS {
+        let (at, byte, leaf) = *row;
+        put(bytes, at, byte);
+        check_eq(told(bytes), (52, leaf))?;
+    }
     check(bytes.len() == 640)?;
-    bytes[483] = 1;
-    check_eq(told(bytes), (52, 3))?;
-    bytes[323] = 1;
-    check_eq(told(bytes), (52, 2))?;
-    bytes[161] = 2;
-    check_eq(told(bytes), (52, 1))?;
     check_eq(told(&bytes[0..639]), (51, 0))
 }
 
@@ -352,10 +360,10 @@ fn largest_book(rt: LibcRuntime) -> Result<(), Fail> {
     for _ in 0..4097 {
         bytes.extend_from_slice(&SAMPLE_LEAF)?;
     }
-    check_eq(bytes.len(), 655_520)?;
-    check_eq(told(&bytes), (51, 0))?;
-    opens(&bytes, 0)?;
+    check_eq(
+        (bytes.len(), told(&bytes), opened(&bytes)),
+        (655_520, (51, 0), (0, 0)),
+    )?;
     bytes.truncate(655_360);
-    check_eq(told(&bytes), (0, 0))?;
-    opens(&bytes, 4096)
+    check_eq((told(&bytes), opened(&bytes)), ((0, 0), (4096, 4096)))
 }

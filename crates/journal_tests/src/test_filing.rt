@@ -17,7 +17,6 @@ use journal::CellsJournal;
 use journal::CellsReading;
 use journal::Entry;
 use journal::Journal;
-use journal::LEAF;
 use journal::Leaves;
 use journal::LeavesJournal;
 use journal::LeavesReading;
@@ -67,13 +66,14 @@ static FILINGS: [(Edit, usize, u8, usize); 35] = [
 
 // All filings, over a journal of eleven entries.
 fn file_all<J: Journal>(journal: &mut J) -> Result<(), Fail> {
-    check_eq(journal.size(), 11)?;
     for filing in &FILINGS {
         let (edit, place, answer, length) = *filing;
         let e = edited(edit);
-        check_eq(number_of(journal.file(place, &e)), answer)?;
-        check_eq(journal.length(), length)?;
-        check_eq(journal.size(), 11)?;
+        let told = number_of(journal.file(place, &e));
+        check_eq(
+            (told, journal.length(), journal.size()),
+            (answer, length, 11),
+        )?;
         if answer == 0 {
             reads_back(&*journal, place, &e)?;
         }
@@ -97,11 +97,11 @@ fn reads_filed<R: Reading>(reading: &R, most: usize) -> Result<(), Fail> {
 
 fn files_and_reads<J: Journal>(journal: &mut J) -> Result<(), Fail> {
     file_all(&mut *journal)?;
-    reads_filed(&*journal, 11)?;
     let reading = &*journal;
-    reads_filed(&FirstEntries { reading, most: 6 }, 6)?;
-    reads_filed(&FirstEntries { reading, most: 0 }, 0)?;
-    reads_filed(&FirstEntries { reading, most: 99 }, 11)
+    for most in [0, 6, 11, 99] {
+        reads_filed(&FirstEntries { reading, most }, most.min(11))?;
+    }
+    Ok(())
 }
 
 #[test]
@@ -129,91 +129,68 @@ fn filing_on_the_heap(rt: LibcRuntime) -> Result<(), Fail> {
 // How many records are lent, and the size of a journal over them.
 static RECORDS: [(usize, usize); 4] = [(0, 0), (1, 1), (4096, 4096), (4097, 4096)];
 
-// How many bytes are lent, and the size of a journal over them.
-static BYTES: [(usize, usize); 7] = [
-    (0, 0),
-    (159, 0),
-    (160, 1),
-    (319, 1),
-    (655_359, 4095),
-    (655_360, 4096),
-    (655_520, 4096),
+// How many bytes are lent, the size of a journal over them, and how many of them its leaves take.
+static BYTES: [(usize, usize, usize); 7] = [
+    (0, 0, 0),
+    (159, 0, 0),
+    (160, 1, 160),
+    (319, 1, 160),
+    (655_359, 4095, 655_200),
+    (655_360, 4096, 655_360),
+    (655_520, 4096, 655_360),
 ];
 
-#[test]
-fn sizes_of_records(rt: LibcRuntime) -> Result<(), Fail> {
-    for row in &RECORDS {
-        let (records, size) = *row;
-        let mut cells = vec![in rt.alloc(); SAMPLE; records]?;
-        check_eq(Cells::new(&mut cells).size(), size)?;
-        check_eq(HeapJournal::with_room(rt.alloc(), records)?.size(), size)?;
-    }
-    Ok(())
-}
-
-#[test]
-fn sizes_of_bytes(rt: LibcRuntime) -> Result<(), Fail> {
-    for row in &BYTES {
-        let (length, size) = *row;
-        let mut bytes = vec![in rt.alloc(); 0u8; length]?;
-        check_eq(Leaves::new(&mut bytes).size(), size)?;
-    }
-    Ok(())
-}
-
-// Files the longest entry at every place, and then tries one more.
+// Files the longest entry at every place of a journal of this size, and then tries one more.
 fn fill<J: Journal>(journal: &mut J, size: usize) -> Result<(), Fail> {
     for place in 0..size {
         check_eq(number_of(journal.file(place, &LONGEST)), 0)?;
     }
-    check_eq(journal.length(), size)?;
-    check_eq(number_of(journal.file(size, &LONGEST)), 63)?;
-    check_eq(number_of(journal.file(size, &edited(Edit::House(16)))), 61)?;
-    check_eq(number_of(journal.file(usize::MAX, &LONGEST)), 62)?;
-    check_eq(journal.length(), size)?;
-    reads_none(&*journal, size)
+    let more = number_of(journal.file(size, &LONGEST));
+    let no_entry = number_of(journal.file(size, &edited(Edit::House(16))));
+    let elsewhere = number_of(journal.file(usize::MAX, &LONGEST));
+    check_eq((more, no_entry, elsewhere), (63, 61, 62))?;
+    check_eq((journal.length(), journal.size()), (size, size))
 }
 
-// The longest line of all: the longest entry at the last place.
-fn longest_line_of<R: Reading>(reading: &R) -> Result<(), Fail> {
-    check_eq(length_told(reading, &mut [0; 371]), 45)?;
-    check_eq(length_told(reading, &mut [0; 372]), 372)
-}
-
-// The length of the last line, or the number of its refusal.
-fn length_told<R: Reading>(reading: &R, out: &mut [u8]) -> usize {
-    match entry_line(reading, 4095, out) {
-        Ok(length) => length,
-        Err(refusal) => refusal.number() as usize,
+// The first records hold the longest entry, and all others the sample.
+fn hold_longest(records: &[Entry], first: usize) -> Result<(), Fail> {
+    for (k, record) in records.iter().enumerate() {
+        let hand = if k < first { LONGEST.hand } else { SAMPLE.hand };
+        check_eq(record.hand, hand)?;
     }
-}
-
-fn hand_of(record: Option<&Entry>) -> Option<i64> {
-    match record {
-        Some(e) => Some(e.hand),
-        None => None,
-    }
+    Ok(())
 }
 
 #[test]
 fn full_cells(rt: LibcRuntime) -> Result<(), Fail> {
-    fill(&mut Cells::new(&mut []), 0)?;
-    let mut records = vec![in rt.alloc(); SAMPLE; 4097]?;
-    fill(&mut Cells::new(&mut records), 4096)?;
-    check_eq(hand_of(records.get(4095)), Some(-MOST))?;
-    check_eq(hand_of(records.get(4096)), Some(-2))
+    for row in &RECORDS {
+        let (records, size) = *row;
+        let mut cells = vec![in rt.alloc(); SAMPLE; records]?;
+        fill(&mut Cells::new(&mut cells), size)?;
+        hold_longest(&cells, size)?;
+    }
+    Ok(())
 }
 
 #[test]
 fn full_leaves(rt: LibcRuntime) -> Result<(), Fail> {
-    fill(&mut Leaves::new(&mut [0x55; 159]), 0)?;
-    let mut bytes = vec![in rt.alloc(); 0x55u8; 655_520]?;
-    fill(&mut Leaves::new(&mut bytes), 4096)?;
-    check_eq(bytes.get(655_200).copied(), Some(15))?;
-    for byte in bytes.iter().skip(655_360) {
-        check_eq(*byte, 0x55)?;
+    for row in &BYTES {
+        let (length, size, taken) = *row;
+        let mut bytes = vec![in rt.alloc(); 0x55u8; length]?;
+        fill(&mut Leaves::new(&mut bytes), size)?;
+        for byte in bytes.iter().skip(taken) {
+            check_eq(*byte, 0x55)?;
+        }
     }
     Ok(())
+}
+
+// The length of the last line of 4,096, or the number of its refusal.
+fn last_line<R: Reading>(reading: &R, out: &mut [u8]) -> usize {
+    match entry_line(reading, 4095, out) {
+        Ok(length) => length,
+        Err(refusal) => refusal.number() as usize,
+    }
 }
 
 #[test]
@@ -222,5 +199,7 @@ fn full_heap(rt: LibcRuntime) -> Result<(), Fail> {
     fill(&mut empty, 0)?;
     let mut journal = HeapJournal::with_room(rt.alloc(), usize::MAX)?;
     fill(&mut journal, 4096)?;
-    longest_line_of(&journal)
+    let short = last_line(&journal, &mut [0; 371]);
+    let whole = last_line(&journal, &mut [0; 372]);
+    check_eq((short, whole), (45, 372))
 }

@@ -33,59 +33,62 @@ fn line_told<R: Reading>(reading: &R, k: usize, out: &mut [u8]) -> (u8, usize) {
     }
 }
 
-fn holds_line(out: &[u8], line: &[u8]) -> Result<(), Fail> {
+// The line, and then bytes as they were.
+fn begins_with(out: &[u8], line: &[u8]) -> Result<(), Fail> {
     for (place, byte) in out.iter().enumerate() {
         check_eq(*byte, line.get(place).copied().unwrap_or(b'#'))?;
     }
     Ok(())
 }
 
-// The line of entry `k` written to the first `room` bytes: they then begin with `line`, which is empty for a refusal,
-// and all other bytes are as they were.
-fn writes_to<R: Reading>(
+// What is told and written of entry `k` where the first `room` of these bytes are lent. Nothing is written for a refusal.
+fn writes<R: Reading>(
     reading: &R,
     k: usize,
     out: &mut [u8],
     room: usize,
-    told: (u8, &[u8]),
+    refusal: u8,
+    line: &[u8],
 ) -> Result<(), Fail> {
-    let (refusal, line) = told;
     check(room <= out.len())?;
     check_eq(
         line_told(reading, k, &mut out[0..room]),
         (refusal, line.len()),
     )?;
-    holds_line(out, line)
+    begins_with(out, line)
 }
 
-fn writes<R: Reading>(
-    reading: &R,
-    k: usize,
-    room: usize,
-    refusal: u8,
-    line: &[u8],
-) -> Result<(), Fail> {
-    writes_to(reading, k, &mut [b'#'; 400], room, (refusal, line))
+// The line of entry `k` in every room, from none to more than enough; an empty line where there is no such entry.
+fn writes_line<R: Reading>(reading: &R, k: usize, line: &[u8]) -> Result<(), Fail> {
+    for room in 0..=400 {
+        let (refusal, written) = if line.is_empty() {
+            (44, line)
+        } else if room < line.len() {
+            (45, &line[0..0])
+        } else {
+            (0, line)
+        };
+        writes(reading, k, &mut [b'#'; 400], room, refusal, written)?;
+    }
+    Ok(())
+}
+
+// The first `most` lines, and none past them.
+fn writes_lines<R: Reading>(reading: &R, most: usize) -> Result<(), Fail> {
+    for (k, row) in LINES.iter().enumerate() {
+        let line = if k < most { row.1 } else { "" };
+        writes_line(reading, k, line.as_bytes())?;
+    }
+    writes_line(reading, LINES.len(), b"")
 }
 
 #[test]
 fn lines(rt: LibcRuntime) -> Result<(), Fail> {
-    let mut journal = HeapJournal::with_room(rt.alloc(), 6)?;
+    let mut journal = HeapJournal::with_room(rt.alloc(), LINES.len())?;
     for (k, row) in LINES.iter().enumerate() {
-        let line = row.1.as_bytes();
-        check(line.len() > 0)?;
         check_eq(number_of(journal.file(k, &edited(row.0))), 0)?;
-        writes(&journal, k, 400, 0, line)?;
-        writes(&journal, k, line.len(), 0, line)?;
-        writes(&journal, k, line.len() - 1, 45, b"")?;
-        writes(&journal, k, 0, 45, b"")?;
     }
-    writes(&journal, 6, 400, 44, b"")?;
-    writes(&journal, 6, 0, 44, b"")?;
-    let five = FirstEntries {
-        reading: &journal,
-        most: 5,
-    };
-    writes(&five, 4, 400, 0, LINES[4].1.as_bytes())?;
-    writes(&five, 5, 400, 44, b"")
+    writes_lines(&journal, 6)?;
+    let reading = &journal;
+    writes_lines(&FirstEntries { reading, most: 5 }, 5)
 }

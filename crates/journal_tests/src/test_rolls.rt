@@ -10,14 +10,12 @@ fn pushed(roll: &mut Roll<u32>, item: u32) -> bool {
     roll.push(item).is_ok()
 }
 
-fn holds(roll: &Roll<u32>, items: &[u32], capacity: usize) -> Result<(), Fail> {
-    check_eq(roll.capacity(), capacity)?;
-    check_eq(roll.len(), items.len())?;
-    check_eq(roll.room().checked_add(items.len()), Some(capacity))?;
-    for (place, item) in items.iter().enumerate() {
-        check_eq(roll.get(place).copied(), Some(*item))?;
+// The roll holds these items, and nothing past them.
+fn holds(roll: &Roll<u32>, items: &[u32], room: usize) -> Result<(), Fail> {
+    check_eq((roll.len(), roll.room()), (items.len(), room))?;
+    for place in 0..=items.len() {
+        check_eq(roll.get(place).copied(), items.get(place).copied())?;
     }
-    check_eq(roll.get(items.len()).copied(), None)?;
     check_eq(roll.get(usize::MAX).copied(), None)
 }
 
@@ -25,21 +23,19 @@ fn holds(roll: &Roll<u32>, items: &[u32], capacity: usize) -> Result<(), Fail> {
 fn rolls() -> Result<(), Fail> {
     let mut cells = [9; 2];
     let mut roll = Roll::new(&mut cells);
-    holds(&roll, &[], 2)?;
-    check(pushed(&mut roll, 4))?;
-    holds(&roll, &[4], 2)?;
-    check(pushed(&mut roll, 5))?;
-    holds(&roll, &[4, 5], 2)?;
-    check(!pushed(&mut roll, 6))?;
-    holds(&roll, &[4, 5], 2)
+    for n in 0..4usize {
+        let items = &[0, 1][0..n.min(2)];
+        holds(&roll, items, 2 - items.len())?;
+        check_eq(roll.capacity(), 2)?;
+        check_eq(pushed(&mut roll, n as u32), n < 2)?;
+    }
+    Ok(())
 }
 
 #[test]
 fn rolls_of_no_cells() -> Result<(), Fail> {
-    let mut cells = [];
-    let mut roll = Roll::new(&mut cells);
-    holds(&roll, &[], 0)?;
-    check(!pushed(&mut roll, 6))?;
+    let mut roll = Roll::new(&mut []);
+    check_eq((pushed(&mut roll, 6), roll.capacity()), (false, 0))?;
     holds(&roll, &[], 0)
 }
 
