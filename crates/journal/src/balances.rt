@@ -34,12 +34,14 @@ impl BalanceRefusal {
     }
 }
 
-// The last of the first `k` entries that gives the account a value: goes back from the end, and stops there.
+// The last of the first `k` entries, or of all where there are fewer, that gives the account a value.
+// It goes back from the end and stops there.
 pub fn last_given<R: Reading>(journal: &R, account: u8, k: usize) -> Option<Given>
     ensures value { λ r. ⌜ r ≡ lastGiven (R·Reading .entries (now (journal .entry))) account k ⌝ }
     ensures last { λ r. ⌜ IsLast (R·Reading .entries (now (journal .entry))) account k r ⌝ }
 {
-    for place in (0..k).rev() {
+    let end = k.min(journal.length());
+    for place in (0..end).rev() {
         if let Some(value) = journal.given(place, account) {
             return Some(Given { place, value });
         }

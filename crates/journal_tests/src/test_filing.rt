@@ -17,11 +17,11 @@ use journal::CellsJournal;
 use journal::CellsReading;
 use journal::Entry;
 use journal::Journal;
+use journal::Reading;
+use journal::entry_line;
 use leaves::Leaves;
 use leaves::LeavesJournal;
 use leaves::LeavesReading;
-use journal::Reading;
-use journal::entry_line;
 use std::alloc::Global;
 use std::test::*;
 

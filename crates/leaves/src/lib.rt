@@ -7,6 +7,7 @@ mod leaf;
 mod pages;
 
 pub use book_check::BookRefusal;
+pub use book_check::BookRefusalPartialEq;
 pub use book_check::check_book;
 pub use book_reading::ClosedBookReading;
 pub use byte_journal::Leaves;

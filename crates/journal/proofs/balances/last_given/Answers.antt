@@ -2,10 +2,11 @@ use borrow.Author.Needs.{needs}
 use borrow.Author.Count.{below-more}
 use mathlib.Core.Path.{_≡_, refl, sym, ap, subst, _∙_}
 use mathlib.Core.List.{List}
-use Prim.Native.Nat.{ℕ, zero, suc, _-_, _<_}
+use Prim.Native.Nat.{ℕ, zero, suc, _-_, _<_, min}
 use native.Mathlib.Nat.{not-suc-le-zero}
 use native.Mathlib.Omega.{arith}
 use lib.IntN.{ℤ}
+use lib.ListN.{length}
 use mir.Val.{SFits}
 use mir.Syntax.{w64}
 use Rattle.std.specs.declared.option.Option.{Option}
@@ -15,6 +16,7 @@ use Rattle.journal.specs.Entries.{Posted}
 use Rattle.journal.specs.Readings.{givenAt}
 use Rattle.journal.specs.Balances.{givenHere, lastGiven, IsLast}
 use Rattle.journal.specs.declared.balances.Given.{Given}
+use Rattle.journal.proofs.PastEntries.{clamped}
 use Rattle.journal.proofs.balances.last_given.Needs as need
 
 -- the last of n entries is asked first
@@ -41,6 +43,12 @@ last-given es a (suc k) = here (givenAt es k a) refl (lastGiven es a k) (last-gi
 -- what is defined is the last, whatever term stands for it
 told : (es : List Posted) (a k : ℕ) (r : Option Given) → r ≡ lastGiven es a k → (r ≡ lastGiven es a k) × IsLast es a k r
 told es a k r e = (e, subst (IsLast es a k) (sym e) (last-given es a k))
+
+pub loop-place-holds : need.loop-place-holds
+loop-place-holds g c =
+    let es = g .R·Reading .entries (c .args .journal .now) in
+    let end : c .min-end .result ≡ min (c .args .k) (length es) = c .min-end .ensures ∙ ap (min (c .args .k)) (c .length .ensures) in
+    ap (lastGiven es (c .args .account)) end ∙ clamped es (c .args .account) (c .args .k)
 
 pub returns-in-Some : need.returns-in-Some
 returns-in-Some g c =
