@@ -4,8 +4,9 @@ ghost use mathlib.Core.Bool.{cond};
 ghost use lib.ListN.{set};
 ghost use Rattle.std.specs.Results.{isOk};
 ghost use Rattle.journal.specs.Entries.{posted};
+ghost use Rattle.journal.specs.Filing.{filing};
 ghost use Rattle.leaves.specs.Leaf.{leafOf};
-ghost use Rattle.leaves.specs.Pages.{leafPut};
+ghost use Rattle.leaves.specs.Pages.{leafPut, wholeLeaves};
 use journal::Entry;
 use journal::FilingRefusal;
 use journal::Journal;
@@ -24,7 +25,8 @@ pub fn push_two(cells: &mut [u32], first: u32, second: u32)
 
 // Files one entry. The first leaf is its leaf afterwards, and all other bytes are as they were.
 pub fn file_on_leaves(bytes: &mut [u8], e: &Entry) -> Result<(), FilingRefusal>
-    ensures { λ r. ⌜ now (bytes .exit) ≡ cond (isOk r) (leafPut (now (bytes .entry)) 0 (leafOf (posted (now (e .entry))))) (now (bytes .entry)) ⌝ }
+    ensures answer { λ r. ⌜ r ≡ filing (now (e .entry)) 0 0 (wholeLeaves (now (bytes .entry))) ⌝ }
+    ensures bytes { λ r. ⌜ now (bytes .exit) ≡ cond (isOk r) (leafPut (now (bytes .entry)) 0 (leafOf (posted (now (e .entry))))) (now (bytes .entry)) ⌝ }
 {
     let mut journal = Leaves::new(bytes);
     journal.file(0, e)
