@@ -1,7 +1,10 @@
 // Postings: what sources of postings say, and what a posting worked alone gives.
+mod drafting;
 mod order;
+mod sheet;
 mod sources;
 
 pub use order::Order;
 pub use order::in_range;
+pub use sheet::Draft;
 pub use sources::Source;

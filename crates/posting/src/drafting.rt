@@ -1,0 +1,95 @@
+// A posting worked alone, for any source over any reading of a journal.
+ghost use mathlib.Core.Path.{_≡_};
+ghost use Prim.Native.Nat.{_≤_};
+ghost use lib.ListN.{getD};
+ghost use Rattle.std.specs.declared.option.Option.the-variants.{None};
+ghost use Rattle.posting.specs.Alone.{balancesAfter, sought, noted, told, lineOf};
+use crate::order::Order;
+use crate::sheet::Progress;
+use crate::sheet::Sheet;
+use crate::sources::Source;
+use journal::ACCOUNTS;
+use journal::PostingId;
+use journal::Reading;
+use journal::last_given;
+
+// The balance of an account after the first `k` entries, or after all where there are fewer.
+fn balance_after<R: Reading>(journal: &R, openings: &[i64; ACCOUNTS], k: usize, account: u8) -> i64
+    requires { ⌜ account ≤ 63 ⌝ }
+    ensures { λ r. ⌜ r ≡ balancesAfter (R·Reading .entries (now (journal .entry))) (now (openings .entry)) k account ⌝ }
+{
+    match last_given(journal, account, k.min(journal.length())) {
+        Some(given) => given.value,
+        None => openings[account as usize],
+    }
+}
+
+// The value that a read of an account finds: what this posting has written, or else the balance, which joins the reads.
+fn find<R: Reading>(
+    journal: &R,
+    openings: &[i64; ACCOUNTS],
+    k: usize,
+    account: u8,
+    sheet: &mut Sheet,
+) -> i64
+    requires { ⌜ account ≤ 63 ⌝ }
+    ensures value { λ r. ⌜ r ≡ sought (getD (now (sheet .entry) .written) account None) (balancesAfter (R·Reading .entries (now (journal .entry))) (now (openings .entry)) k account) ⌝ }
+    ensures sheet { λ _. ⌜ now (sheet .exit) ≡ noted (getD (now (sheet .entry) .written) account None) account (now (sheet .entry)) ⌝ }
+{
+    match sheet.written[account as usize] {
+        Some(value) => value,
+        None => {
+            sheet.reads[account as usize] = true;
+            balance_after(journal, openings, k, account)
+        }
+    }
+}
+
+// Takes up the hand that the source tells for a value that a line found.
+fn tell<S: Source>(
+    source: &S,
+    posting: PostingId,
+    line: usize,
+    value: i64,
+    sheet: &mut Sheet,
+) -> Progress
+    ensures { λ r. ⌜ (r, now (sheet .exit)) ≡ told (S·Source .meaning (now (source .entry)) .found (posting .house) (posting .number) line (now (sheet .entry) .hand) value) (now (sheet .entry)) ⌝ }
+{
+    match source.found(posting.house, posting.number, line, sheet.hand, value) {
+        Some(hand) => {
+            sheet.hand = hand;
+            Progress::More
+        }
+        None => Progress::Voided,
+    }
+}
+
+// Carries out one line of a posting.
+fn work_line<S: Source, R: Reading>(
+    source: &S,
+    journal: &R,
+    openings: &[i64; ACCOUNTS],
+    k: usize,
+    posting: PostingId,
+    line: usize,
+    sheet: &mut Sheet,
+) -> Progress
+    ensures { λ r. ⌜ (r, now (sheet .exit)) ≡ lineOf (S·Source .meaning (now (source .entry))) (posting .house) (posting .number) (balancesAfter (R·Reading .entries (now (journal .entry))) (now (openings .entry)) k) line (now (sheet .entry)) ⌝ }
+{
+    match source.order(posting.house, posting.number, line, sheet.hand) {
+        Order::Read { account } => {
+            let value = find(journal, openings, k, account, sheet);
+            tell(source, posting, line, value, sheet)
+        }
+        Order::Write { account, value } => {
+            sheet.written[account as usize] = Some(value);
+            Progress::More
+        }
+        Order::GoOn { hand } => {
+            sheet.hand = hand;
+            Progress::More
+        }
+        Order::Done => Progress::Ended,
+        Order::Void => Progress::Voided,
+    }
+}

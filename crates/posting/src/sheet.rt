@@ -1,0 +1,40 @@
+// What is noted while a posting is worked, and what it comes to.
+use journal::ACCOUNTS;
+use journal::MAX_PAIRS;
+use journal::Pair;
+
+// A posting that is being worked, account by account.
+#[derive(Clone, Copy)]
+pub struct Sheet {
+    // The present hand.
+    pub hand: i64,
+    // Whether the balance of an account was read.
+    pub reads: [bool; ACCOUNTS],
+    // The value that the posting has given an account.
+    pub written: [Option<i64>; ACCOUNTS],
+}
+
+// What comes after a line.
+#[derive(Clone, Copy, PartialEq, Eq)]
+pub enum Progress {
+    // The next line.
+    More,
+    // The end of the posting.
+    Ended,
+    // The end of the posting, which is void.
+    Voided,
+}
+
+// What a posting worked alone comes to.
+#[derive(Clone, Copy)]
+pub struct Draft {
+    // Whether the posting read the balance of an account.
+    pub reads: [bool; ACCOUNTS],
+    // A void posting gives no account a value.
+    pub void: bool,
+    // The hand that the posting leaves its house with.
+    pub hand: i64,
+    // How many of the pairs count; the others are padding.
+    pub count: u8,
+    pub pairs: [Pair; MAX_PAIRS],
+}
