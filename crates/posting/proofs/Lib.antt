@@ -1,1 +1,2 @@
 pub mod Clamped
+pub mod Gathered

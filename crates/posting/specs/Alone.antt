@@ -18,6 +18,7 @@ use Rattle.posting.specs.declared.sheet.Sheet.{Sheet}
 use Rattle.posting.specs.declared.sheet.Progress.{Progress}
 use Rattle.posting.specs.declared.sheet.Progress.the-variants.{More, Ended, Voided}
 use Rattle.posting.specs.declared.sheet.Draft.{Draft}
+use Rattle.posting.specs.declared.sheet.PairList.{PairList}
 
 -- what a posting comes to: which accounts' balances it read (place a tells of account a), whether it is void,
 -- the hand that it leaves, and the accounts that it gives values to, rising
@@ -73,6 +74,10 @@ pairOf a (Some value) = record { account = a; value = value } ∷ []
 unfoldable pub pairsFrom : ℕ → List (Option ℤ) → List Pair
 pairsFrom a [] = []
 pairsFrom a (w ∷ ws) = pairOf a w ++ pairsFrom (a + 1) ws
+
+-- a list says its first `count` pairs
+abbrev pub listed : PairList → List Pair
+listed ps = take (ps .count) (ps .pairs)
 
 -- an end with the present hand and all that was written
 abbrev pub closed : Sheet → Outcome

@@ -1,6 +1,7 @@
 // Postings: what sources of postings say, and what a posting worked alone gives.
 mod drafting;
 mod order;
+mod pairs;
 mod sheet;
 mod sources;
 

@@ -38,3 +38,11 @@ pub struct Draft {
     pub count: u8,
     pub pairs: [Pair; MAX_PAIRS],
 }
+
+// Pairs, as many as an entry can have.
+#[derive(Clone, Copy)]
+pub struct PairList {
+    // How many of the pairs count; the others are padding.
+    pub count: u8,
+    pub pairs: [Pair; MAX_PAIRS],
+}
