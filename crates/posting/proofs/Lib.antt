@@ -1,2 +1,5 @@
 pub mod Clamped
 pub mod Gathered
+pub mod Lines
+pub mod Locality
+pub mod Entered

@@ -1,10 +1,13 @@
 // A posting worked alone, for any source over any reading of a journal.
 ghost use mathlib.Core.Path.{_≡_};
 ghost use Prim.Native.Nat.{_≤_};
-ghost use lib.ListN.{getD};
+ghost use lib.ListN.{length, getD};
 ghost use Rattle.std.specs.declared.option.Option.the-variants.{None};
-ghost use Rattle.posting.specs.Alone.{balancesAfter, sought, noted, told, lineOf};
+ghost use Rattle.posting.specs.Alone.{balancesAfter, sought, noted, told, lineOf, pairsFrom, closed, voided, outcome, alone, Local, Enterable};
 use crate::order::Order;
+use crate::pairs::gather;
+use crate::pairs::no_pairs;
+use crate::sheet::Draft;
 use crate::sheet::Progress;
 use crate::sheet::Sheet;
 use crate::sources::Source;
@@ -91,5 +94,38 @@ fn work_line<S: Source, R: Reading>(
         }
         Order::Done => Progress::Ended,
         Order::Void => Progress::Voided,
+    }
+}
+
+// An end with the present hand and all that was written.
+fn close(sheet: &Sheet) -> Draft
+    requires { ⌜ length (pairsFrom 0 (now sheet .written)) ≤ 16 ⌝ }
+    ensures value { λ r. ⌜ outcome r ≡ closed (now (sheet .entry)) ⌝ }
+    ensures counted { λ r. ⌜ r .count ≤ 16 ⌝ }
+{
+    let list = gather(&sheet.written);
+    let pairs = list.pairs;
+    Draft {
+        reads: sheet.reads,
+        void: false,
+        hand: sheet.hand,
+        count: list.count,
+        pairs,
+    }
+}
+
+// A void end: the hand at the start, and nothing written.
+fn spoil(sheet: &Sheet, start: i64) -> Draft
+    ensures value { λ r. ⌜ outcome r ≡ voided start (now (sheet .entry)) ⌝ }
+    ensures counted { λ r. ⌜ r .count ≤ 16 ⌝ }
+{
+    let list = no_pairs();
+    let pairs = list.pairs;
+    Draft {
+        reads: sheet.reads,
+        void: true,
+        hand: start,
+        count: list.count,
+        pairs,
     }
 }
