@@ -33,6 +33,10 @@ module _ (m : Meaning) (house number : ℕ) (balance : ℕ → ℤ) (start : ℤ
   unfolding worked
   worked-out n line s e = rw e refl
 
+pub worked-all : (m : Meaning) (house number : ℕ) (balance : ℕ → ℤ) (start : ℤ) (n : ℕ) → worked m house number balance start (n - 0) 0 (blank start) ≡ worked m house number balance start n 0 (blank start)
+worked-all m house number balance start n =
+    let e : n - 0 ≡ n = omega arith in ap (λ l. worked m house number balance start l 0 (blank start)) e
+
 pub worked-same : (m : Meaning) (house number : ℕ) (balance : ℕ → ℤ) (h k : ℤ) (n l : ℕ) → h ≡ k → n ≡ l → worked m house number balance h n 0 (blank h) ≡ worked m house number balance k l 0 (blank k)
 worked-same m house number balance h k n l e f =
     ap (λ x. worked m house number balance x n 0 (blank x)) e ∙ ap (λ x. worked m house number balance k x 0 (blank k)) f
@@ -74,6 +78,12 @@ line-adds m house number balance line s t p e =
     let same : length (pairsFrom 0 (t .written)) ≡ length (pairsFrom 0 (lineOf m house number balance line s .1 .written)) =
     ap (λ (x : Progress × Sheet). length (pairsFrom 0 (x .1 .written))) e in
     omega (arith, carried-adds (m .order house number line (s .hand)) (m .found house number line (s .hand)) balance s)
+
+-- so after a line there are at most as many pairs as lines
+pub lines-few :
+    (m : Meaning) (house number : ℕ) (balance : ℕ → ℤ) (line : ℕ) (s t : Sheet) (p : Progress)
+    → length (pairsFrom 0 (s .written)) ≤ line → (p, t) ≡ lineOf m house number balance line s → length (pairsFrom 0 (t .written)) ≤ line + 1
+lines-few m house number balance line s t p few e = omega (arith, line-adds m house number balance line s t p e)
 
 pub blank-none : (start : ℤ) → length (pairsFrom 0 (blank start .written)) ≡ 0
 unfolding pairsFrom

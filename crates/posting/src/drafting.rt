@@ -129,3 +129,34 @@ fn spoil(sheet: &Sheet, start: i64) -> Draft
         pairs,
     }
 }
+
+// A posting worked alone on the balances after the first `k` entries, or after all where there are fewer, from the hand at
+// its start. It depends on the balances only at its reads, and makes a lawful entry.
+pub fn draft<S: Source, R: Reading>(
+    source: &S,
+    journal: &R,
+    openings: &[i64; ACCOUNTS],
+    k: usize,
+    posting: PostingId,
+    start: i64,
+) -> Draft
+    ensures value { λ r. ⌜ outcome r ≡ alone (S·Source .meaning (now (source .entry))) (balancesAfter (R·Reading .entries (now (journal .entry))) (now (openings .entry)) k) (posting .house) (posting .number) start ⌝ }
+    ensures counted { λ r. ⌜ r .count ≤ 16 ⌝ }
+    ensures local { λ _. ⌜ Local (S·Source .meaning (now (source .entry))) ⌝ }
+    ensures enterable { λ _. ⌜ Enterable (S·Source .meaning (now (source .entry))) ⌝ }
+{
+    let mut sheet = Sheet {
+        hand: start,
+        reads: [false; ACCOUNTS],
+        written: [None; ACCOUNTS],
+    };
+    let lines = source.longest_posting();
+    for line in 0..lines {
+        match work_line(source, journal, openings, k, posting, line, &mut sheet) {
+            Progress::More => {}
+            Progress::Ended => return close(&sheet),
+            Progress::Voided => return spoil(&sheet, start),
+        }
+    }
+    close(&sheet)
+}

@@ -5,6 +5,7 @@ mod pairs;
 mod sheet;
 mod sources;
 
+pub use drafting::draft;
 pub use order::Order;
 pub use order::in_range;
 pub use sheet::Draft;
