@@ -10,13 +10,14 @@ use lib.ListN.{length, getD, set, replicate, length-set}
 use Rattle.std.proofs.shelf.Tests.{and-from, le-leb}
 use Rattle.std.specs.declared.option.Option.{Option}
 use Rattle.std.specs.declared.option.Option.the-variants.{Some, None}
-use Rattle.journal.specs.Entries.{Posted, InRange, inRange, fits, rises, none, lawful, Lawful}
+use Rattle.journal.specs.Entries.{Posted, posted, InRange, inRange, fits, rises, lawful, isEntry, Lawful}
 use Rattle.journal.specs.declared.entry.Pair.{Pair}
-use Rattle.journal.proofs.Lawfulness.{rises-at, rises-rising}
+use Rattle.journal.proofs.Lawfulness.{rises-at, rises-rising, lawful-to}
 use Rattle.posting.specs.Sources.{Meaning, OrderKept, HandKept, Limits}
-use Rattle.posting.specs.Alone.{Outcome, sought, noted, told, carried, lineOf, pairOf, pairsFrom, closed, voided, after, worked, blank, postedFor, Enterable}
+use Rattle.posting.specs.Alone.{Outcome, sought, noted, told, carried, lineOf, pairOf, pairsFrom, closed, voided, after, worked, blank, outcome, entryFor, postedFor, Enterable}
 use Rattle.posting.specs.declared.order.Order.{Order}
 use Rattle.posting.specs.declared.order.Order.the-variants.{Read, Write, GoOn, Done, Void}
+use Rattle.posting.specs.declared.sheet.Draft.{Draft}
 use Rattle.posting.specs.declared.sheet.Sheet.{Sheet}
 use Rattle.posting.specs.declared.sheet.Progress.{Progress}
 use Rattle.posting.specs.declared.sheet.Progress.the-variants.{More, Ended, Voided}
@@ -132,3 +133,8 @@ always-enterable m limits house number start balance low first last h =
     sound-lawful _ house number
     (worked-sound m limits house number balance start h (m .longest) 0 (blank start) k (omega (arith, blank-none start, limits .short)))
     low first last
+
+-- the record of a lawful outcome is an entry
+pub entry-lawful : (d : Draft) (house number : ℕ) → d .count ≤ 16 → Lawful (postedFor (outcome d) house number) → isEntry (entryFor d house number) ≡ true
+entry-lawful d house number few ok =
+    and-from (leb (d .count) 16) (lawful (posted (entryFor d house number))) (le-leb _ _ few) (lawful-to (posted (entryFor d house number)) ok)

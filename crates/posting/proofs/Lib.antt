@@ -3,3 +3,4 @@ pub mod Gathered
 pub mod Lines
 pub mod Locality
 pub mod Entered
+pub mod Outside

@@ -1,7 +1,14 @@
 // What is noted while a posting is worked, and what it comes to.
+ghost use mathlib.Core.Path.{_≡_};
+ghost use mathlib.Core.Bool.{true};
+ghost use Prim.Native.Nat.{_≤_};
+ghost use Rattle.journal.specs.Entries.{posted, isEntry, Lawful};
+ghost use Rattle.posting.specs.Alone.{outcome, entryFor, postedFor};
 use journal::ACCOUNTS;
+use journal::Entry;
 use journal::MAX_PAIRS;
 use journal::Pair;
+use journal::PostingId;
 
 // A posting that is being worked, account by account.
 #[derive(Clone, Copy)]
@@ -37,6 +44,24 @@ pub struct Draft {
     // How many of the pairs count; the others are padding.
     pub count: u8,
     pub pairs: [Pair; MAX_PAIRS],
+}
+
+impl Draft {
+    // The entry that the draft makes for its posting.
+    pub fn entry_for(&self, posting: PostingId) -> Entry
+        ensures value { λ r. ⌜ r ≡ entryFor (now (self .entry)) (posting .house) (posting .number) ⌝ }
+        ensures says { λ r. ⌜ posted r ≡ postedFor (outcome (now (self .entry))) (posting .house) (posting .number) ⌝ }
+        ensures lawful { λ r. ⌜ (now (self .entry) .count ≤ 16 → Lawful (postedFor (outcome (now (self .entry))) (posting .house) (posting .number)) → isEntry r ≡ true) ⌝ }
+    {
+        Entry {
+            house: posting.house,
+            number: posting.number,
+            void: self.void,
+            hand: self.hand,
+            count: self.count,
+            pairs: self.pairs,
+        }
+    }
 }
 
 // Pairs, as many as an entry can have.
