@@ -4,3 +4,4 @@ pub mod Lines
 pub mod Locality
 pub mod Entered
 pub mod Outside
+pub mod Checked

@@ -4,9 +4,13 @@ mod order;
 mod pairs;
 mod sheet;
 mod sources;
+mod standing_order;
 
 pub use drafting::draft;
 pub use order::Order;
 pub use order::in_range;
 pub use sheet::Draft;
 pub use sources::Source;
+pub use standing_order::StandingOrder;
+pub use standing_order::StandingRefusal;
+pub use standing_order::check_orders;
