@@ -1,5 +1,5 @@
 -- The check of standing orders, record by record.
-use mathlib.Core.Path.{_≡_, refl, sym, ap, _∙_}
+use mathlib.Core.Path.{_≡_, refl, sym, ap, subst, _∙_}
 use mathlib.Core.Bool.{Bool, true, false, cond, _&&_}
 use mathlib.Core.List.{List, [], _∷_}
 use Prim.Native.Nat.{ℕ, zero, suc, _+_, _<_, _≤_}
@@ -12,7 +12,7 @@ use Rattle.std.specs.declared.option.Option.the-variants.{Some, None}
 use Rattle.std.specs.declared.result.Result.{Result}
 use Rattle.std.specs.declared.result.Result.the-variants.{Ok, Err}
 use Rattle.std.proofs.shelf.Lists.{at-drop-more, at-drop-all}
-use Rattle.std.proofs.shelf.Tests.{and-from, and-parts, le-leb, leb-true, cond-true, cond-false}
+use Rattle.std.proofs.shelf.Tests.{and-from, and-parts, le-leb, leb-true, cond-true, cond-false, cond-both}
 use Rattle.posting.specs.Standing.{goodOrder, firstBad, refusedAt, ordersChecked, ordersKept, orderAt}
 use Rattle.posting.specs.declared.standing_order.StandingOrder.{StandingOrder}
 use Rattle.posting.specs.declared.standing_order.StandingRefusal.{StandingRefusal}
@@ -33,3 +33,30 @@ checked-at os bad some few found =
     ap refusedAt found
     ∙ sym (cond-true (leb 1 (length os) && leb (length os) 16) (refusedAt (firstBad 0 os)) (Err NotOneToSixteen)
     (and-from (leb 1 (length os)) (leb (length os) 16) (le-leb _ _ some) (le-leb _ _ few)))
+
+-- what the check lets pass
+
+none-parts : (b : Bool) (rest : Option ℕ) (k : ℕ) → cond b rest (Some k) ≡ None → (b ≡ true) × (rest ≡ None)
+none-parts true rest k e = (refl, e)
+none-parts false rest k e = absurd (let z : _≡_ {A = ℕ} 0 1 = cc in omega arith)
+
+good-at : (k : ℕ) (os : List StandingOrder) → firstBad k os ≡ None → (house : ℕ) → goodOrder (orderAt os house) ≡ true
+good-at k [] e house = refl
+good-at k (o ∷ os) e zero = none-parts (goodOrder o) (firstBad (k + 1) os) k e .0
+good-at k (o ∷ os) e (suc house) = good-at (k + 1) os (none-parts (goodOrder o) (firstBad (k + 1) os) k e .1) house
+
+ok-parts : (b : Bool) (bad : Option ℕ) → isOk (cond b (refusedAt bad) (Err NotOneToSixteen)) ≡ true → (b ≡ true) × (bad ≡ None)
+ok-parts true None e = (refl, refl)
+ok-parts true (Some k) e = absurd (let z : _≡_ {A = ℕ} 0 1 = cc in omega arith)
+ok-parts false bad e = absurd (let z : _≡_ {A = ℕ} 0 1 = cc in omega arith)
+
+passed : (os : List StandingOrder) → isOk (ordersChecked os) ≡ true → (length os ≤ 16) × ((house : ℕ) → goodOrder (orderAt os house) ≡ true)
+passed os e =
+    let parts = ok-parts (leb 1 (length os) && leb (length os) 16) (firstBad 0 os) e in
+    (leb-true (length os) 16 (and-parts (leb 1 (length os)) (leb (length os) 16) (parts .0) .1), good-at 0 os (parts .1))
+
+-- what is kept passed the check, or is nothing
+pub kept-good : (os kept : List StandingOrder) → kept ≡ ordersKept os → (length kept ≤ 16) × ((house : ℕ) → goodOrder (orderAt kept house) ≡ true)
+kept-good os kept e =
+    let P : List StandingOrder → Type 0 = λ xs. (length xs ≤ 16) × ((house : ℕ) → goodOrder (orderAt xs house) ≡ true) in
+    subst P (sym e) (cond-both (isOk (ordersChecked os)) os [] P (λ ok. passed os ok) (λ no. (omega arith, λ house. refl)))

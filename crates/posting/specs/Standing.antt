@@ -71,8 +71,8 @@ lineOrder o line hand =
     (cond (eqb line 2) (goOn (hand -ℤ o .floor))
     (cond (eqb line 3) (Read (o .to)) (Write (o .to) hand))))
 
-abbrev pub lineFound : StandingOrder → ℕ → ℤ → ℤ → Option ℤ
-lineFound o line hand value = cond (eqb line 0) (Some value) (cond (eqb line 3) (nextHand (hand +ℤ value)) None)
+abbrev pub lineFound : ℕ → ℤ → ℤ → Option ℤ
+lineFound line hand value = cond (eqb line 0) (Some value) (cond (eqb line 3) (nextHand (hand +ℤ value)) None)
 
 -- each house has `times` postings, all alike
 abbrev pub standing : List StandingOrder → Meaning
@@ -81,5 +81,5 @@ standing os = voidOutside record {
   postings = λ house. orderAt os house .times;
   longest = 5;
   order = λ house number line hand. lineOrder (orderAt os house) line hand;
-  found = λ house number line hand value. lineFound (orderAt os house) line hand value;
+  found = λ house number line hand value. lineFound line hand value;
 }

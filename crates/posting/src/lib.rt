@@ -5,6 +5,8 @@ mod pairs;
 mod sheet;
 mod sources;
 mod standing_order;
+mod standing_orders;
+mod standing_source;
 
 pub use drafting::draft;
 pub use order::Order;
@@ -14,3 +16,5 @@ pub use sources::Source;
 pub use standing_order::StandingOrder;
 pub use standing_order::StandingRefusal;
 pub use standing_order::check_orders;
+pub use standing_orders::StandingOrders;
+pub use standing_source::StandingOrdersSource;

@@ -1,9 +1,8 @@
 // What every source of postings can be asked.
 ghost use mathlib.Core.Path.{_≡_};
 ghost use Prim.Native.Nat.{_≤_};
-ghost use Rattle.posting.specs.Sources.{Meaning, Limits, OrderKept, HandKept, asked};
+ghost use Rattle.posting.specs.Sources.{Meaning, Limits, OrderKept, HandKept};
 use crate::order::Order;
-use crate::order::in_range;
 
 // A source of postings. Its meaning is told by one record of functions, within the limits that `longest_posting` promises.
 // No question alters anything, and a question out of range is void.
@@ -37,15 +36,4 @@ pub trait Source {
     fn found(&self, house: u8, number: u32, line: usize, hand: i64, value: i64) -> Option<i64>
         ensures value { λ r. ⌜ r ≡ meaning (now (self .entry)) .found house number line hand value ⌝ }
         ensures kept { λ r. ⌜ HandKept r ⌝ };
-
-    // Whether a question is in range: there is such a house, posting and line, and such a hand.
-    fn asked(&self, house: u8, number: u32, line: usize, hand: i64) -> bool
-        ensures { λ r. ⌜ r ≡ asked (meaning (now (self .entry))) house number line hand ⌝ }
-    {
-        house < self.houses()
-            && 1 <= number
-            && number <= self.postings(house)
-            && line < self.longest_posting()
-            && in_range(hand)
-    }
 }
