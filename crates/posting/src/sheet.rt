@@ -47,11 +47,9 @@ pub struct Draft {
 }
 
 impl Draft {
-    // The entry that the draft makes for its posting.
-    pub fn entry_for(&self, posting: PostingId) -> Entry
-        ensures value { λ r. ⌜ r ≡ entryFor (now (self .entry)) (posting .house) (posting .number) ⌝ }
-        ensures says { λ r. ⌜ posted r ≡ postedFor (outcome (now (self .entry))) (posting .house) (posting .number) ⌝ }
-        ensures lawful { λ r. ⌜ (now (self .entry) .count ≤ 16 → Lawful (postedFor (outcome (now (self .entry))) (posting .house) (posting .number)) → isEntry r ≡ true) ⌝ }
+    // The record that the draft makes for its posting.
+    fn record_for(&self, posting: PostingId) -> Entry
+        ensures { λ r. ⌜ r ≡ entryFor (now (self .entry)) (posting .house) (posting .number) ⌝ }
     {
         Entry {
             house: posting.house,
@@ -61,6 +59,15 @@ impl Draft {
             count: self.count,
             pairs: self.pairs,
         }
+    }
+
+    // The entry that the draft makes for its posting: it says what the draft comes to, and is an entry if that is lawful.
+    pub fn entry_for(&self, posting: PostingId) -> Entry
+        ensures value { λ r. ⌜ r ≡ entryFor (now (self .entry)) (posting .house) (posting .number) ⌝ }
+        ensures says { λ r. ⌜ posted r ≡ postedFor (outcome (now (self .entry))) (posting .house) (posting .number) ⌝ }
+        ensures lawful { λ r. ⌜ (now (self .entry) .count ≤ 16 → Lawful (postedFor (outcome (now (self .entry))) (posting .house) (posting .number)) → isEntry r ≡ true) ⌝ }
+    {
+        self.record_for(posting)
     }
 }
 

@@ -126,7 +126,8 @@ pub impl<'a> Source for StandingOrders<'a> as StandingOrdersSource {
     }
 
     fn postings(&self, house: u8) -> u32 {
-        self.order_at(house).times
+        let o = self.order_at(house);
+        o.times
     }
 
     fn order(&self, house: u8, number: u32, line: usize, hand: i64) -> Order {
