@@ -2,11 +2,12 @@
 use mathlib.Core.Path.{_≡_, refl}
 use mathlib.Core.Bool.{Bool, true, false, cond, _&&_}
 use Prim.Native.Nat.{ℕ, _≤_}
+use lib.Dec.{leb, ltb}
 use lib.IntN.{ℤ}
 use Rattle.std.specs.declared.option.Option.{Option}
 use Rattle.std.specs.declared.option.Option.the-variants.{Some, None}
-use Rattle.std.proofs.shelf.Tests.{and-parts, and-right, cond-false, cond-both}
-use Rattle.journal.specs.Entries.{inRange}
+use Rattle.std.proofs.shelf.Tests.{and-parts, and-right, leb-true, cond-false, cond-both}
+use Rattle.journal.specs.Entries.{InRange, inRange}
 use Rattle.posting.specs.Sources.{Meaning, asked, OrderKept, HandKept, isRead, Limits, voidOutside}
 use Rattle.posting.specs.declared.order.Order.{Order}
 use Rattle.posting.specs.declared.order.Order.the-variants.{Read, Write, GoOn, Done, Void}
@@ -49,3 +50,12 @@ limits-outside m inside = record {
       cond-false (asked m house number line hand && inRange value) (m .found house number line hand value) None
       (and-right (asked m house number line hand) (inRange value) e);
 }
+
+-- a hand that is asked about is in range
+pub asked-hand : (m : Meaning) (house number line : ℕ) (hand : ℤ) → asked m house number line hand ≡ true → InRange hand
+asked-hand m house number line hand h =
+    let a = and-parts (ltb house (m .houses)) _ h in
+    let b = and-parts (leb 1 number) _ (a .1) in
+    let c = and-parts (leb number (m .postings house)) _ (b .1) in
+    let d = and-parts (ltb line (m .longest)) (inRange hand) (c .1) in
+    leb-true _ _ (d .1)

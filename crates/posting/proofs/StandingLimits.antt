@@ -5,7 +5,7 @@ use mathlib.Core.List.{List}
 use mathlib.Core.Logic.{⊎-elim}
 use Prim.Native.Nat.{ℕ, _≤_}
 use native.Mathlib.Omega.{arith}
-use lib.Dec.{eqb, leb, ltb}
+use lib.Dec.{eqb, leb}
 use lib.IntN.{ℤ, pos, _+ℤ_, _-ℤ_}
 use lib.ListN.{length}
 use lib.Signed.{leZ}
@@ -14,12 +14,12 @@ use Rattle.std.specs.declared.option.Option.the-variants.{Some, None}
 use Rattle.std.proofs.shelf.Lists.{getD-past}
 use Rattle.std.proofs.shelf.Tests.{and-parts, leb-true, eqb-true, cases-bool, both-ways, cond-false, cond-both}
 use Rattle.journal.specs.Entries.{InRange, inRange}
-use Rattle.posting.specs.Sources.{Meaning, asked, OrderKept, HandKept, isRead, Limits}
+use Rattle.posting.specs.Sources.{OrderKept, HandKept, isRead, Limits}
 use Rattle.posting.specs.Standing.{goodOrder, orderAt, goOn, nextHand, lineOrder, lineFound, standing}
 use Rattle.posting.specs.declared.order.Order.{Order}
 use Rattle.posting.specs.declared.order.Order.the-variants.{Read, Write, GoOn, Done, Void}
 use Rattle.posting.specs.declared.standing_order.StandingOrder.{StandingOrder}
-use Rattle.posting.proofs.Outside.{Inside, limits-outside}
+use Rattle.posting.proofs.Outside.{limits-outside, asked-hand}
 
 -- what the test of a record says
 pub record Good (o : StandingOrder) : Type 0 where
@@ -34,15 +34,6 @@ good-parts o h =
     let b = and-parts (leb (o .to) 63) _ (a .1) in
     let c = and-parts (inRange (o .floor)) (leb (o .times) 4096) (b .1) in
     record { from = leb-true _ _ (a .0); to = leb-true _ _ (b .0); floor = leb-true _ _ (c .0); times = leb-true _ _ (c .1) }
-
--- a hand that is asked about is in range
-pub asked-hand : (m : Meaning) (house number line : ℕ) (hand : ℤ) → asked m house number line hand ≡ true → InRange hand
-asked-hand m house number line hand h =
-    let a = and-parts (ltb house (m .houses)) _ h in
-    let b = and-parts (leb 1 number) _ (a .1) in
-    let c = and-parts (leb number (m .postings house)) _ (b .1) in
-    let d = and-parts (ltb line (m .longest)) (inRange hand) (c .1) in
-    leb-true _ _ (d .1)
 
 order-kept : (o : StandingOrder) (line : ℕ) (hand : ℤ) → Good o → InRange hand → OrderKept (lineOrder o line hand)
 order-kept o line hand good h =

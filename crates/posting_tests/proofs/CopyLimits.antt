@@ -1,19 +1,15 @@
 -- The customer's source keeps the limits of a source.
-use mathlib.Core.Path.{_≡_, refl, subst}
+use mathlib.Core.Path.{_≡_, refl}
 use mathlib.Core.Bool.{Bool, true, false, cond}
-use mathlib.Core.Logic.{⊎-elim}
 use Prim.Native.Nat.{ℕ, _≤_, min}
 use native.Mathlib.Omega.{arith}
 use lib.Dec.{eqb}
 use lib.IntN.{ℤ}
-use Rattle.std.specs.declared.option.Option.{Option}
 use Rattle.std.specs.declared.option.Option.the-variants.{Some, None}
-use Rattle.std.proofs.shelf.Tests.{cases-bool, leb-true, cond-false, cond-both, ne-eqb}
+use Rattle.std.proofs.shelf.Tests.{leb-true, cond-false, cond-both, ne-eqb}
 use Rattle.posting.specs.Sources.{OrderKept, HandKept, isRead, Limits}
-use Rattle.posting.specs.declared.order.Order.{Order}
 use Rattle.posting.specs.declared.order.Order.the-variants.{Read, Write}
-use Rattle.posting.proofs.Outside.{Inside, limits-outside}
-use Rattle.posting.proofs.StandingLimits.{asked-hand}
+use Rattle.posting.proofs.Outside.{limits-outside, asked-hand}
 use Rattle.posting_tests.specs.Copying.{copying}
 
 unread : (b : Bool) (hand value : ℤ) → isRead (cond b (Read 1) (Write 2 hand)) ≡ false → cond b (Some value) None ≡ None
