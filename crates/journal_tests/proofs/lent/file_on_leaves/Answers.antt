@@ -17,10 +17,10 @@ returns c =
     let none = ap length (c .new-journal .ensures .entries) in
     record {
       answer =
-        c .file .ensures .answer
-        ∙ ap (λ (n : ℕ). filing e 0 n (leafSize (c .new-journal .result))) none
-        ∙ ap (λ (n : ℕ). filing e 0 0 n) (c .new-journal .ensures .size);
+          c .file .ensures .answer
+          ∙ ap (λ (n : ℕ). filing e 0 n (leafSize (c .new-journal .result))) none
+          ∙ ap (λ (n : ℕ). filing e 0 0 n) (c .new-journal .ensures .size);
       bytes =
-        lent-back (λ bs n. leafPut bs n (leafOf (posted e))) (isOk (c .file .result)) _ _ _ (c .args .bytes .now) _
-        (search needs) (c .file .ensures .bytes) (c .new-journal .ensures .bytes) none;
+          lent-back (λ bs n. leafPut bs n (leafOf (posted e))) (isOk (c .file .result)) _ _ _ (c .args .bytes .now) _
+          (search needs) (c .file .ensures .bytes) (c .new-journal .ensures .bytes) none;
     }
