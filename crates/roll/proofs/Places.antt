@@ -29,3 +29,11 @@ nth-take (suc n) (x ∷ xs) (suc i) h = nth-take n xs i (le-of-suc-le-suc h)
 -- nothing stands past the cut
 pub nth-take-past : {X : Type 0} (n : ℕ) (xs : List X) (i : ℕ) → n ≤ i → nth (take n xs) i ≡ None
 nth-take-past n xs i h = nth-past (take n xs) i (simp length-take (omega arith))
+
+-- as many as a front has are that front
+pub take-front : {X : Type 0} (m n : ℕ) (xs : List X) → m ≡ length (take n xs) → take m xs ≡ take n xs
+take-front m n xs e = ap (λ (k : ℕ). take k xs) e ∙ go n xs where
+  go : {X : Type 0} (n : ℕ) (xs : List X) → take (length (take n xs)) xs ≡ take n xs
+  go zero xs = refl
+  go (suc n) [] = refl
+  go {X} (suc n) (x ∷ xs) = ap (λ (ys : List X). x ∷ ys) (go n xs)

@@ -69,6 +69,25 @@ impl<'a, T: Copy> Roll<'a, T> {
         Ok(())
     }
 
+    // An empty roll over the same cells.
+    pub fn clear(&mut self)
+        ensures items { λ _. ⌜ items (now (self .exit)) ≡ [] ⌝ }
+        ensures unused { λ _. ⌜ unused (now (self .exit)) ≡ cellsOf (now (self .entry)) ⌝ }
+        ensures cells { λ _. ⌜ cellsOf (now (self .exit)) ≡ cellsOf (now (self .entry)) ⌝ }
+        ensures capacity { λ _. ⌜ capacityOf (now (self .exit)) ≡ capacityOf (now (self .entry)) ⌝ }
+        ensures lender { λ _. ⌜ name (now (self .exit) .cells) ≡ name (now (self .entry) .cells) ⌝ }
+    {
+        self.used = 0;
+    }
+
+    // The items, in the order of their pushes.
+    pub fn as_slice(&self) -> &[T]
+        ensures { λ r. ⌜ now r ≡ items (now (self .entry)) ⌝ }
+    {
+        let used = self.len();
+        &self.cells[..used]
+    }
+
     // The item at this place, counted from 0, or none.
     pub fn get(&self, place: usize) -> Option<&T>
         ensures { λ r. ⌜ mapped now r ≡ nth (items (now (self .entry))) place ⌝ }

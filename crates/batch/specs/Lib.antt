@@ -1,0 +1,11 @@
+pub mod Parts
+pub mod Fields
+pub mod Marks
+pub mod Rules
+pub mod Limits
+pub mod Judging
+pub mod Progress
+pub mod Refusals
+pub mod Reading
+pub mod Plans
+pub mod Tables
