@@ -6,3 +6,4 @@ pub mod Entered
 pub mod Outside
 pub mod Checked
 pub mod StandingLimits
+pub mod Moving
