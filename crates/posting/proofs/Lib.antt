@@ -5,3 +5,4 @@ pub mod Entered
 pub mod Outside
 pub mod Checked
 pub mod StandingLimits
+pub mod Moving

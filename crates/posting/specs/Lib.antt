@@ -1,3 +1,4 @@
 pub mod Sources
 pub mod Alone
 pub mod Standing
+pub mod Moves

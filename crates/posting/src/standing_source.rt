@@ -4,6 +4,7 @@ ghost use mathlib.Core.Bool.{true};
 ghost use Prim.Native.Nat.{_≤_};
 ghost use denote.Ref.{now as held};
 ghost use Rattle.journal.specs.Entries.{InRange};
+ghost use Rattle.posting.specs.Moves.{Always-moves};
 ghost use Rattle.posting.specs.Sources.{asked};
 ghost use Rattle.posting.specs.Standing.{goodOrder, ordersKept, orderAt, lineOrder, lineFound, standing};
 use crate::order::Order;
@@ -74,9 +75,11 @@ fn line_found(line: usize, hand: i64, value: i64) -> Option<i64>
 }
 
 impl<'a> StandingOrders<'a> {
-    // The source of these records; one without houses if `check_orders` refuses them.
+    // The source of these records; one without houses if `check_orders` refuses them. Each of its postings moves what an account
+    // has above the floor.
     pub fn new(orders: &'a [StandingOrder]) -> Self
-        ensures { λ r. ⌜ held (r .orders) ≡ ordersKept (now (orders .entry)) ⌝ }
+        ensures orders { λ r. ⌜ held (r .orders) ≡ ordersKept (now (orders .entry)) ⌝ }
+        ensures moves { λ _. ⌜ Always-moves (ordersKept (now (orders .entry))) ⌝ }
     {
         StandingOrders {
             orders: kept(orders),
