@@ -41,10 +41,11 @@ unfolding natural
 natural-bounds low high f n e =
     let t = sameBytes f (decimal (value 10 f)) && (leb low (value 10 f) && leb (value 10 f) high) in
     let P : Bool → Type 0 = λ b. t ≡ b → _≡_ {A = Option ℕ} (cond b (Some (value 10 f)) None) (Some n) → (low ≤ n) × (n ≤ high) in
-    (elim t as P
-      [ true ↦ λ h k. (let same : value 10 f ≡ n = cc in let q = and-parts (leb low (value 10 f)) (leb (value 10 f) high) (and-parts (sameBytes f (decimal (value 10 f))) _ h .1) in
+    (elim t as P [
+      | true ↦ λ h k. (let same : value 10 f ≡ n = cc in let q = and-parts (leb low (value 10 f)) (leb (value 10 f) high) (and-parts (sameBytes f (decimal (value 10 f))) _ h .1) in
           (omega (arith, leb-true low (value 10 f) (q .0)), omega (arith, leb-true (value 10 f) high (q .1))))
-      | false ↦ λ h k. absurd (let z : _≡_ {A = ℕ} 0 1 = cc in omega arith) ]) refl e
+      | false ↦ λ h k. absurd (let z : _≡_ {A = ℕ} 0 1 = cc in omega arith)
+    ]) refl e
 
 pub mapped-some : {X Y : Type 0} (f : X → Y) (o : Option X) (y : Y) → mapped f o ≡ Some y → (x : X) × (o ≡ Some x) × (f x ≡ y)
 mapped-some f None y e = absurd (let z : _≡_ {A = ℕ} 0 1 = cc in omega arith)
@@ -59,9 +60,10 @@ unfolding cents
 cents-bounds [] v e = absurd (let z : _≡_ {A = ℕ} 0 1 = cc in omega arith)
 cents-bounds (c ∷ cs) v e =
     let P : Bool → Type 0 = λ b. cond b (mapped (λ n. negℤ (pos n)) (natural 1 1000000000000000 cs)) (mapped pos (natural 0 1000000000000000 (c ∷ cs))) ≡ Some v → InRange v in
-    (elim (eqb c 45) as P
-      [ true ↦ λ h. (let m = mapped-some (λ n. negℤ (pos n)) (natural 1 1000000000000000 cs) v h in omega (arith, natural-bounds 1 1000000000000000 cs (m .0) (m .1) .1, ap natAbs (m .2), abs-neg (m .0)))
-      | false ↦ λ h. (let m = mapped-some pos (natural 0 1000000000000000 (c ∷ cs)) v h in omega (arith, natural-bounds 0 1000000000000000 (c ∷ cs) (m .0) (m .1) .1, ap natAbs (m .2))) ]) e
+    (elim (eqb c 45) as P [
+      | true ↦ λ h. (let m = mapped-some (λ n. negℤ (pos n)) (natural 1 1000000000000000 cs) v h in omega (arith, natural-bounds 1 1000000000000000 cs (m .0) (m .1) .1, ap natAbs (m .2), abs-neg (m .0)))
+      | false ↦ λ h. (let m = mapped-some pos (natural 0 1000000000000000 (c ∷ cs)) v h in omega (arith, natural-bounds 0 1000000000000000 (c ∷ cs) (m .0) (m .1) .1, ap natAbs (m .2)))
+    ]) e
 
 pub nonzero-some : (o : Option ℤ) (v : ℤ) → nonzero o ≡ Some v → (o ≡ Some v) × (v ≡ pos 0 → ⊥)
 nonzero-some None v e = absurd (let z : _≡_ {A = ℕ} 0 1 = cc in omega arith)
@@ -136,9 +138,10 @@ seated-ok : (t : Sizes) (s : Progress) (r : Result Item Fault) (i : Item) → se
 seated-ok t s (Err f) i e = absurd (let z : _≡_ {A = ℕ} 0 1 = cc in omega arith)
 seated-ok t s (Ok j) i e =
     let P : Bool → Type 0 = λ b. roomFor t s j ≡ b → _≡_ {A = Result Item Fault} (cond b (Ok j) (Err Room)) (Ok i) → (_≡_ {A = Result Item Fault} (Ok j) (Ok i)) × (roomFor t s i ≡ true) in
-    (elim (roomFor t s j) as P
-      [ true ↦ λ h k. (let same : j ≡ i = cc in (k, ap (roomFor t s) (sym same) ∙ h))
-      | false ↦ λ h k. absurd (let z : _≡_ {A = ℕ} 0 1 = cc in omega arith) ]) refl e
+    (elim (roomFor t s j) as P [
+      | true ↦ λ h k. (let same : j ≡ i = cc in (k, ap (roomFor t s) (sym same) ∙ h))
+      | false ↦ λ h k. absurd (let z : _≡_ {A = ℕ} 0 1 = cc in omega arith)
+    ]) refl e
 
 passed : (b : Bool) (r : Result Item Fault) (f : Fault) (i : Item) → cond b r (Err f) ≡ Ok i → (b ≡ true) × (r ≡ Ok i)
 passed true r f i e = (refl, e)
@@ -192,9 +195,9 @@ tested-form t s n o m a b c e h =
 same-test : (n k : ℕ) → k ≤ 4 → eqb (min 5 n) k ≡ eqb n k
 same-test n k h = go (eqb n k) refl
   where
-  go : (b : Bool) → eqb n k ≡ b → eqb (min 5 n) k ≡ b
-  go true e = eq-eqb (min 5 n) k (omega (arith, eqb-true n k e))
-  go false e = ne-eqb (min 5 n) k (λ z. omega (arith, eqb-false n k e))
+    go : (b : Bool) → eqb n k ≡ b → eqb (min 5 n) k ≡ b
+    go true e = eq-eqb (min 5 n) k (omega (arith, eqb-true n k e))
+    go false e = ne-eqb (min 5 n) k (λ z. omega (arith, eqb-false n k e))
 
 capped : (t : Sizes) (s : Progress) (n : ℕ) (o : Option Mark) (a b c : List ℕ) → tested t s (min 5 n) o a b c ≡ tested t s n o a b c
 capped t s n None a b c = refl

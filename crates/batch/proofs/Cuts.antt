@@ -43,66 +43,71 @@ pub field-take : (s : List ℕ) → take (length (firstField s)) s ≡ firstFiel
 field-take [] = refl
 field-take (c ∷ cs) =
     let P : Bool → Bool → Type 0 = λ a b. take (length (cond a [] (cond b [] (c ∷ firstField cs)))) (c ∷ cs) ≡ cond a [] (cond b [] (c ∷ firstField cs)) in
-    elim (eqb c 44) as (λ a. P a (eqb c 10))
-      [ true ↦ refl
-      | false ↦ (elim (eqb c 10) as (λ b. P false b) [ true ↦ refl | false ↦ ap (λ l. c ∷ l) (field-take cs) ]) ]
+    elim (eqb c 44) as (λ a. P a (eqb c 10)) [
+      | true ↦ refl
+      | false ↦ (elim (eqb c 10) as (λ b. P false b) [ true ↦ refl | false ↦ ap (λ l. c ∷ l) (field-take cs) ])
+    ]
 
 pub field-all : (s : List ℕ) → length s ≤ length (firstField s) → firstField s ≡ s
 field-all [] h = refl
 field-all (c ∷ cs) h =
     let P : Bool → Bool → Type 0 = λ a b. suc (length cs) ≤ length (cond a [] (cond b [] (c ∷ firstField cs))) → cond a [] (cond b [] (c ∷ firstField cs)) ≡ c ∷ cs in
-    (elim (eqb c 44) as (λ a. P a (eqb c 10))
-      [ true ↦ λ k. absurd (omega arith)
-      | false ↦ (elim (eqb c 10) as (λ b. P false b) [ true ↦ λ k. absurd (omega arith) | false ↦ λ k. ap (λ l. c ∷ l) (field-all cs (omega arith)) ]) ]) h
+    (elim (eqb c 44) as (λ a. P a (eqb c 10)) [
+      | true ↦ λ k. absurd (omega arith)
+      | false ↦ (elim (eqb c 10) as (λ b. P false b) [ true ↦ λ k. absurd (omega arith) | false ↦ λ k. ap (λ l. c ∷ l) (field-all cs (omega arith)) ])
+    ]) h
 
 pub after-drop : (s : List ℕ) → afterField s ≡ drop (length (firstField s) + 1) s
 after-drop [] = sym (drop-all 1 [] (omega arith))
 after-drop (c ∷ cs) =
     let P : Bool → Bool → Type 0 = λ a b. cond a cs (cond b cs (afterField cs)) ≡ drop (length (cond a [] (cond b [] (c ∷ firstField cs))) + 1) (c ∷ cs) in
-    elim (eqb c 44) as (λ a. P a (eqb c 10))
-      [ true ↦ refl
-      | false ↦ (elim (eqb c 10) as (λ b. P false b) [ true ↦ refl | false ↦ rw add-one (after-drop cs ∙ rw add-one refl) ]) ]
+    elim (eqb c 44) as (λ a. P a (eqb c 10)) [
+      | true ↦ refl
+      | false ↦ (elim (eqb c 10) as (λ b. P false b) [ true ↦ refl | false ↦ rw add-one (after-drop cs ∙ rw add-one refl) ])
+    ]
 
 pub more-at : (s : List ℕ) → length (firstField s) < length s → moreFields s ≡ eqb (getD s (length (firstField s)) 0) 44
 more-at [] h = absurd (omega arith)
 more-at (c ∷ cs) h =
     let P : Bool → Bool → Type 0 = λ a b. eqb c 44 ≡ a → length (cond a [] (cond b [] (c ∷ firstField cs))) < suc (length cs)
-        → cond a true (cond b false (moreFields cs)) ≡ eqb (getD (c ∷ cs) (length (cond a [] (cond b [] (c ∷ firstField cs)))) 0) 44 in
-    (elim (eqb c 44) as (λ a. P a (eqb c 10))
-      [ true ↦ λ e k. sym e
-      | false ↦ (elim (eqb c 10) as (λ b. P false b) [ true ↦ λ e k. sym e | false ↦ λ e k. more-at cs (omega arith) ]) ]) refl h
+    → cond a true (cond b false (moreFields cs)) ≡ eqb (getD (c ∷ cs) (length (cond a [] (cond b [] (c ∷ firstField cs)))) 0) 44 in
+    (elim (eqb c 44) as (λ a. P a (eqb c 10)) [
+      | true ↦ λ e k. sym e
+      | false ↦ (elim (eqb c 10) as (λ b. P false b) [ true ↦ λ e k. sym e | false ↦ λ e k. more-at cs (omega arith) ])
+    ]) refl h
 
 pub more-none : (s : List ℕ) → length s ≤ length (firstField s) → moreFields s ≡ false
 more-none [] h = refl
 more-none (c ∷ cs) h =
     let P : Bool → Bool → Type 0 = λ a b. suc (length cs) ≤ length (cond a [] (cond b [] (c ∷ firstField cs))) → cond a true (cond b false (moreFields cs)) ≡ false in
-    (elim (eqb c 44) as (λ a. P a (eqb c 10))
-      [ true ↦ λ k. absurd (omega arith)
-      | false ↦ (elim (eqb c 10) as (λ b. P false b) [ true ↦ λ k. absurd (omega arith) | false ↦ λ k. more-none cs (omega arith) ]) ]) h
+    (elim (eqb c 44) as (λ a. P a (eqb c 10)) [
+      | true ↦ λ k. absurd (omega arith)
+      | false ↦ (elim (eqb c 10) as (λ b. P false b) [ true ↦ λ k. absurd (omega arith) | false ↦ λ k. more-none cs (omega arith) ])
+    ]) h
 
 -- the fields of the first line, one by one
 pub fields-more : (s : List ℕ) → fields (firstLine s) ≡ firstField s ∷ cond (moreFields s) (fields (firstLine (afterField s))) []
 fields-more [] = refl
 fields-more (c ∷ cs) = go (eqb c 44) (eqb c 10) refl refl (fields-more cs)
   where
-  go : (a b : Bool) → eqb c 44 ≡ a → eqb c 10 ≡ b → fields (firstLine cs) ≡ firstField cs ∷ cond (moreFields cs) (fields (firstLine (afterField cs))) []
-      → fields (cond b [] (c ∷ firstLine cs)) ≡ cond a [] (cond b [] (c ∷ firstField cs)) ∷ cond (cond a true (cond b false (moreFields cs))) (fields (firstLine (cond a cs (cond b cs (afterField cs))))) []
-  go true true e f h = absurd (omega (arith, eqb-true c 44 e, eqb-true c 10 f))
-  go true false e f h = ap (λ x. cond x ([] ∷ fields (firstLine cs)) (onto c (fields (firstLine cs)))) e
-  go false true e f h = refl
-  go false false e f h = ap (λ x. cond x ([] ∷ fields (firstLine cs)) (onto c (fields (firstLine cs)))) e ∙ ap (onto c) h
+    go : (a b : Bool) → eqb c 44 ≡ a → eqb c 10 ≡ b → fields (firstLine cs) ≡ firstField cs ∷ cond (moreFields cs) (fields (firstLine (afterField cs))) []
+        → fields (cond b [] (c ∷ firstLine cs)) ≡ cond a [] (cond b [] (c ∷ firstField cs)) ∷ cond (cond a true (cond b false (moreFields cs))) (fields (firstLine (cond a cs (cond b cs (afterField cs))))) []
+    go true true e f h = absurd (omega (arith, eqb-true c 44 e, eqb-true c 10 f))
+    go true false e f h = ap (λ x. cond x ([] ∷ fields (firstLine cs)) (onto c (fields (firstLine cs)))) e
+    go false true e f h = refl
+    go false false e f h = ap (λ x. cond x ([] ∷ fields (firstLine cs)) (onto c (fields (firstLine cs)))) e ∙ ap (onto c) h
 
 -- a text's first line ends with its last field
 pub after-more : (s : List ℕ) → afterLine s ≡ cond (moreFields s) (afterLine (afterField s)) (afterField s)
 after-more [] = refl
 after-more (c ∷ cs) = go (eqb c 44) (eqb c 10) refl refl (after-more cs)
   where
-  go : (a b : Bool) → eqb c 44 ≡ a → eqb c 10 ≡ b → afterLine cs ≡ cond (moreFields cs) (afterLine (afterField cs)) (afterField cs)
-      → cond b cs (afterLine cs) ≡ cond (cond a true (cond b false (moreFields cs))) (afterLine (cond a cs (cond b cs (afterField cs)))) (cond a cs (cond b cs (afterField cs)))
-  go true true e f h = absurd (omega (arith, eqb-true c 44 e, eqb-true c 10 f))
-  go true false e f h = refl
-  go false true e f h = refl
-  go false false e f h = h
+    go : (a b : Bool) → eqb c 44 ≡ a → eqb c 10 ≡ b → afterLine cs ≡ cond (moreFields cs) (afterLine (afterField cs)) (afterField cs)
+        → cond b cs (afterLine cs) ≡ cond (cond a true (cond b false (moreFields cs))) (afterLine (cond a cs (cond b cs (afterField cs)))) (cond a cs (cond b cs (afterField cs)))
+    go true true e f h = absurd (omega (arith, eqb-true c 44 e, eqb-true c 10 f))
+    go true false e f h = refl
+    go false true e f h = refl
+    go false false e f h = h
 
 -- a cut by place is the cut of a field
 
@@ -118,40 +123,40 @@ pub lines-more : (s : List ℕ) → 0 < length s → lines s ≡ firstLine s ∷
 lines-more [] h = absurd (omega arith)
 lines-more (c ∷ []) h = go (eqb c 10)
   where
-  go : (b : Bool) → cond b ([] ∷ []) ((c ∷ []) ∷ []) ≡ cond b [] (c ∷ []) ∷ lines (cond b [] [])
-  go true = refl
-  go false = refl
+    go : (b : Bool) → cond b ([] ∷ []) ((c ∷ []) ∷ []) ≡ cond b [] (c ∷ []) ∷ lines (cond b [] [])
+    go true = refl
+    go false = refl
 lines-more (c ∷ d ∷ cs) h = go (eqb c 10) (lines-more (d ∷ cs) (omega arith))
   where
-  go : (b : Bool) → lines (d ∷ cs) ≡ firstLine (d ∷ cs) ∷ lines (afterLine (d ∷ cs))
-      → cond b ([] ∷ lines (d ∷ cs)) (onto c (lines (d ∷ cs))) ≡ cond b [] (c ∷ firstLine (d ∷ cs)) ∷ lines (cond b (d ∷ cs) (afterLine (d ∷ cs)))
-  go true k = refl
-  go false k = ap (onto c) k
+    go : (b : Bool) → lines (d ∷ cs) ≡ firstLine (d ∷ cs) ∷ lines (afterLine (d ∷ cs))
+        → cond b ([] ∷ lines (d ∷ cs)) (onto c (lines (d ∷ cs))) ≡ cond b [] (c ∷ firstLine (d ∷ cs)) ∷ lines (cond b (d ∷ cs) (afterLine (d ∷ cs)))
+    go true k = refl
+    go false k = ap (onto c) k
 
 pub after-less : (s : List ℕ) → 0 < length s → length (afterLine s) < length s
 after-less [] h = absurd (omega arith)
 after-less (c ∷ []) h = go (eqb c 10)
   where
-  go : (b : Bool) → length {A = ℕ} (cond b [] []) < 1
-  go true = omega arith
-  go false = omega arith
+    go : (b : Bool) → length {A = ℕ} (cond b [] []) < 1
+    go true = omega arith
+    go false = omega arith
 after-less (c ∷ d ∷ cs) h = go (eqb c 10) (after-less (d ∷ cs) (omega arith))
   where
-  go : (b : Bool) → length (afterLine (d ∷ cs)) < length (d ∷ cs) → length (cond b (d ∷ cs) (afterLine (d ∷ cs))) < suc (length (d ∷ cs))
-  go true k = omega arith
-  go false k = omega arith
+    go : (b : Bool) → length (afterLine (d ∷ cs)) < length (d ∷ cs) → length (cond b (d ∷ cs) (afterLine (d ∷ cs))) < suc (length (d ∷ cs))
+    go true k = omega arith
+    go false k = omega arith
 
 -- a line from its fields
 pub split-as : (s : List ℕ) (fs : List (List ℕ)) (n : ℕ) (rest : List ℕ) → fields (firstLine s) ≡ fs → n ≡ min 5 (length fs) → (length fs ≤ 4 → rest ≡ afterLine s)
     → Split s n (getD fs 0 []) (getD fs 1 []) (getD fs 2 []) (getD fs 3 []) rest
 split-as s fs n rest e k r = record {
-    count = k ∙ ap (λ l. min 5 (length l)) (sym e);
-    mark = ap (λ l. getD l 0 []) (sym e);
-    first = ap (λ l. getD l 1 []) (sym e);
-    second = ap (λ l. getD l 2 []) (sym e);
-    third = ap (λ l. getD l 3 []) (sym e);
-    rest = λ h. r (omega (arith, ap length e));
-  }
+  count = k ∙ ap (λ l. min 5 (length l)) (sym e);
+  mark = ap (λ l. getD l 0 []) (sym e);
+  first = ap (λ l. getD l 1 []) (sym e);
+  second = ap (λ l. getD l 2 []) (sym e);
+  third = ap (λ l. getD l 3 []) (sym e);
+  rest = λ h. r (omega (arith, ap length e));
+}
 
 pub after-all : (s : List ℕ) → length s ≤ length (firstField s) → afterField s ≡ []
 after-all s h = after-drop s ∙ drop-all (length (firstField s) + 1) s (omega arith)

@@ -108,10 +108,11 @@ unfolding natural
 natural-none low high f h =
     let t = sameBytes f (decimal (value 10 f)) && (leb low (value 10 f) && leb (value 10 f) high) in
     let P : Bool → Type 0 = λ b. t ≡ b → _≡_ {A = Option ℕ} (cond b (Some (value 10 f)) None) None in
-    (elim t as P
-      [ true ↦ λ e. (let q = and-parts _ _ e in let r = and-parts _ _ (q .1) in
+    (elim t as P [
+      | true ↦ λ e. (let q = and-parts _ _ e in let r = and-parts _ _ (q .1) in
           absurd (h (value 10 f) (sameBytes-decides f (decimal (value 10 f)) .0 (q .0)) (leb-true _ _ (r .0)) (leb-true _ _ (r .1))))
-      | false ↦ λ e. refl ]) refl
+      | false ↦ λ e. refl
+    ]) refl
 
 pub natural-unwritten : (low high : ℕ) (f : List ℕ) → high ≤ 1000000000000000 → Unwritten f → natural low high f ≡ None
 natural-unwritten low high f b u = natural-none low high f (λ n e l h. u n (omega arith) e)

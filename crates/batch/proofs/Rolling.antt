@@ -39,21 +39,21 @@ grown-none r = record { list = sym (append-nil (items r)); free = refl; size = r
 
 pub grown-more : {X : Type 0} (xs ys : List X) (a b c : Roll X) → Grown xs a b → Grown ys b c → Grown (xs ++ ys) a c
 grown-more xs ys a b c g h = record {
-    list = h .list ∙ ap (λ l. l ++ ys) (g .list) ∙ append-assoc (items a) xs ys;
-    free = h .free ∙ ap (drop (length ys)) (g .free) ∙ drop-drop (length ys) (length xs) (unused a) ∙ ap (λ k. drop k (unused a)) (sym (length-append xs ys));
-    size = h .size ∙ g .size;
-    lender = h .lender ∙ g .lender;
-  }
+  list = h .list ∙ ap (λ l. l ++ ys) (g .list) ∙ append-assoc (items a) xs ys;
+  free = h .free ∙ ap (drop (length ys)) (g .free) ∙ drop-drop (length ys) (length xs) (unused a) ∙ ap (λ k. drop k (unused a)) (sym (length-append xs ys));
+  size = h .size ∙ g .size;
+  lender = h .lender ∙ g .lender;
+}
 
 -- records in a roll that was cleared make it anew
 pub anew : {X : Type 0} (xs : List X) (before cleared after : Roll X) → items cleared ≡ [] → unused cleared ≡ cellsOf before → capacityOf cleared ≡ capacityOf before
     → name (cleared .cells) ≡ name (before .cells) → Grown xs cleared after → Anew xs before after
 anew xs before cleared after a b c d g = record {
-    list = g .list ∙ ap (λ l. l ++ xs) a;
-    free = g .free ∙ ap (drop (length xs)) b;
-    size = g .size ∙ c;
-    lender = g .lender ∙ d;
-  }
+  list = g .list ∙ ap (λ l. l ++ xs) a;
+  free = g .free ∙ ap (drop (length xs)) b;
+  size = g .size ∙ c;
+  lender = g .lender ∙ d;
+}
 
 -- a record that comes has room
 
@@ -107,17 +107,17 @@ ended-ok : (text : List ℕ) (r : Result (List Item) BatchRefusal) → answered 
 ended-ok text (Err e) h = absurd (let z : _≡_ {A = ℕ} 0 1 = cc in omega arith)
 ended-ok text (Ok past) h = (past, refl, go (closes text past) h)
   where
-  go : (b : Bool) → answered (cond b (Ok past) (Err (End (length past)))) ≡ Ok tt → cond b (Ok past) (Err (End (length past))) ≡ Ok past
-  go true k = refl
-  go false k = absurd (let z : _≡_ {A = ℕ} 0 1 = cc in omega arith)
+    go : (b : Bool) → answered (cond b (Ok past) (Err (End (length past)))) ≡ Ok tt → cond b (Ok past) (Err (End (length past))) ≡ Ok past
+    go true k = refl
+    go false k = absurd (let z : _≡_ {A = ℕ} 0 1 = cc in omega arith)
 
 pub batch-ok : (t : Sizes) (text : List ℕ) → answered (batch t text) ≡ Ok tt → (past : List Item) × (said t [] (lines text) ≡ Ok past) × (batch t text ≡ Ok past)
 batch-ok t text h = go (eqb (length text) 0 || ltb 32768 (length text)) h
   where
-  go : (b : Bool) → answered (cond b (Err Size) (ended text (said t [] (lines text)))) ≡ Ok tt
-      → (past : List Item) × (said t [] (lines text) ≡ Ok past) × (cond b (Err Size) (ended text (said t [] (lines text))) ≡ Ok past)
-  go true k = absurd (let z : _≡_ {A = ℕ} 0 1 = cc in omega arith)
-  go false k = ended-ok text (said t [] (lines text)) k
+    go : (b : Bool) → answered (cond b (Err Size) (ended text (said t [] (lines text)))) ≡ Ok tt
+        → (past : List Item) × (said t [] (lines text) ≡ Ok past) × (cond b (Err Size) (ended text (said t [] (lines text))) ≡ Ok past)
+    go true k = absurd (let z : _≡_ {A = ℕ} 0 1 = cc in omega arith)
+    go false k = ended-ok text (said t [] (lines text)) k
 
 -- all lines of an accepted batch were said
 pub said-all : (t : Sizes) (text rest : List ℕ) (past : List Item) → answered (batch t text) ≡ Ok tt → said t past (lines rest) ≡ said t [] (lines text) → length rest ≡ 0 → batch t text ≡ Ok past
@@ -126,8 +126,8 @@ said-all t text rest past h w e =
     let same : past ≡ q .0 = ok-same past (q .0) (sym (all-said t past rest e) ∙ w ∙ q .1) in
     q .2 ∙ ap Ok (sym same)
   where
-  ok-same : (p q : List Item) → _≡_ {A = Result (List Item) BatchRefusal} (Ok p) (Ok q) → p ≡ q
-  ok-same p q e = cc
+    ok-same : (p q : List Item) → _≡_ {A = Result (List Item) BatchRefusal} (Ok p) (Ok q) → p ≡ q
+    ok-same p q e = cc
 
 -- no line of an accepted batch is refused
 pub never-refused : (t : Sizes) (k : Progress) (past : List Item) (text rest : List ℕ) (f : Fault) → answered (batch t text) ≡ Ok tt

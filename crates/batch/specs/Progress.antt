@@ -71,17 +71,17 @@ linesAfter (Runs r ∷ past) = linesAfter past
 
 abbrev pub sofar : List Item → Progress
 sofar past = record {
-    stage = stageAfter past;
-    houses = housesIn past;
-    workers = workersIn past;
-    seen = seenIn past;
-    account = accountAfter past;
-    here = hereAfter past;
-    lines = linesAfter past;
-    postings = length (postingsIn past);
-    orders = length (ordersIn past);
-    runs = length (runsIn past);
-  }
+  stage = stageAfter past;
+  houses = housesIn past;
+  workers = workersIn past;
+  seen = seenIn past;
+  account = accountAfter past;
+  here = hereAfter past;
+  lines = linesAfter past;
+  postings = length (postingsIn past);
+  orders = length (ordersIn past);
+  runs = length (runsIn past);
+}
 
 -- the same, one line after the other
 

@@ -9,6 +9,7 @@ ghost use Rattle.roll.specs.Rolls.{items, capacityOf};
 ghost use Rattle.batch.specs.Limits.{Allowed};
 ghost use Rattle.batch.specs.Plans.{terms, planAfter};
 ghost use Rattle.batch.specs.Reading.{batch, answered};
+ghost use Rattle.batch.specs.Texts.{batchText};
 ghost use Rattle.batch.specs.Tables.{Grown, Tabled, postingOf, orderOf, runOf, postingsIn, ordersIn, runsIn, sizesOf};
 use crate::items::BatchRefusal;
 use crate::items::Item;
@@ -65,7 +66,14 @@ fn run_of(item: Item) -> Option<Run>
 }
 
 // One more line into the tables, which have room for it.
-fn put(sizes: Sizes, known: &Progress, item: Item, postings: &mut Roll<'_, Posting>, lines: &mut Roll<'_, OrderLine>, runs: &mut Roll<'_, Run>)
+fn put(
+    sizes: Sizes,
+    known: &Progress,
+    item: Item,
+    postings: &mut Roll<'_, Posting>,
+    lines: &mut Roll<'_, OrderLine>,
+    runs: &mut Roll<'_, Run>,
+)
     requires allowed { ⌜ Allowed sizes (now known) item ⌝ }
     requires postings { ⌜ (length (items (now postings)) ≡ now known .postings) × (capacityOf (now postings) ≡ sizes .postings) ⌝ }
     requires lines { ⌜ (length (items (now lines)) ≡ now known .orders) × (capacityOf (now lines) ≡ sizes .orders) ⌝ }
@@ -80,7 +88,14 @@ fn put(sizes: Sizes, known: &Progress, item: Item, postings: &mut Roll<'_, Posti
 }
 
 // Fills the plan and the tables from a text that was accepted.
-fn fill(sizes: Sizes, text: &[u8], plan: &mut Plan, postings: &mut Roll<'_, Posting>, lines: &mut Roll<'_, OrderLine>, runs: &mut Roll<'_, Run>)
+fn fill(
+    sizes: Sizes,
+    text: &[u8],
+    plan: &mut Plan,
+    postings: &mut Roll<'_, Posting>,
+    lines: &mut Roll<'_, OrderLine>,
+    runs: &mut Roll<'_, Run>,
+)
     requires accepted { ⌜ answered (batch sizes (now text)) ≡ Ok tt ⌝ }
     requires postings { ⌜ capacityOf (now postings) ≡ sizes .postings ⌝ }
     requires lines { ⌜ capacityOf (now lines) ≡ sizes .orders ⌝ }
@@ -111,12 +126,19 @@ fn fill(sizes: Sizes, text: &[u8], plan: &mut Plan, postings: &mut Roll<'_, Post
 
 // Reads a batch into the plan and the tables. An accepted batch sets them anew, as new rolls over the same cells,
 // of which those past the used ones stay. A refused one leaves the plan, the rolls and every cell as they were.
-pub fn read_batch(text: &[u8], plan: &mut Plan, postings: &mut Roll<'_, Posting>, lines: &mut Roll<'_, OrderLine>, runs: &mut Roll<'_, Run>) -> Result<(), BatchRefusal>
+pub fn read_batch(
+    text: &[u8],
+    plan: &mut Plan,
+    postings: &mut Roll<'_, Posting>,
+    lines: &mut Roll<'_, OrderLine>,
+    runs: &mut Roll<'_, Run>,
+) -> Result<(), BatchRefusal>
     ensures answer { λ r. ⌜ r ≡ answered (batch (sizesOf (now (postings .entry)) (now (lines .entry)) (now (runs .entry))) (now (text .entry))) ⌝ }
     ensures plan { λ _. ⌜ terms (now (plan .exit)) ≡ planAfter (terms (now (plan .entry))) (batch (sizesOf (now (postings .entry)) (now (lines .entry)) (now (runs .entry))) (now (text .entry))) ⌝ }
     ensures postings { λ _. ⌜ Tabled postingsIn (batch (sizesOf (now (postings .entry)) (now (lines .entry)) (now (runs .entry))) (now (text .entry))) (now (postings .entry)) (now (postings .exit)) ⌝ }
     ensures lines { λ _. ⌜ Tabled ordersIn (batch (sizesOf (now (postings .entry)) (now (lines .entry)) (now (runs .entry))) (now (text .entry))) (now (lines .entry)) (now (lines .exit)) ⌝ }
     ensures runs { λ _. ⌜ Tabled runsIn (batch (sizesOf (now (postings .entry)) (now (lines .entry)) (now (runs .entry))) (now (text .entry))) (now (runs .entry)) (now (runs .exit)) ⌝ }
+    ensures written { λ r. ⌜ (r ≡ Ok tt → now (text .entry) ≡ batchText (terms (now (plan .exit))) (items (now (postings .exit))) (items (now (lines .exit))) (items (now (runs .exit)))) ⌝ }
 {
     let sizes = Sizes {
         postings: postings.capacity(),

@@ -44,14 +44,15 @@ loop-rest-again c =
     let rest = c .loop-rest .rest .now in
     let more : 0 < length rest = omega (arith, false-eqb (length rest) 0 (c .loop-rest-test .ensures tt)) in
     let posting : postingOf (c .loop-rest .known .seen) (c .loop-rest .known .orders) item ≡ postingOf (seenIn past) (length (ordersIn past)) item =
-      ap (λ s. postingOf (s .seen) (s .orders) item) (i .1) in
-    (item ∷ past,
-     known-more (c .loop-rest .known) _ past item (i .1) (c .enter .ensures),
-     step-ok (c .args .sizes) (c .loop-rest .known) past rest (c .in-Ok .judged .rest .now) item (i .1) more (c .in-Ok .ensures tt .item) (c .in-Ok .ensures tt .rest) ∙ i .2,
-     grown-more (postingsIn past) (postingOf (seenIn past) (length (ordersIn past)) item) _ _ _ (i .3) (grown-same _ _ _ _ posting (c .put .ensures .postings)),
-     grown-more (ordersIn past) (orderOf item) _ _ _ (i .4) (c .put .ensures .lines),
-     grown-more (runsIn past) (runOf item) _ _ _ (i .5) (c .put .ensures .runs),
-     c .note .ensures ∙ ap (λ s. noted (terms (c .loop-rest .plan)) (s .seen) item) (i .1) ∙ ap (λ p. noted p (seenIn past) item) (i .6))
+    ap (λ s. postingOf (s .seen) (s .orders) item) (i .1) in (
+      item ∷ past,
+      known-more (c .loop-rest .known) _ past item (i .1) (c .enter .ensures),
+      step-ok (c .args .sizes) (c .loop-rest .known) past rest (c .in-Ok .judged .rest .now) item (i .1) more (c .in-Ok .ensures tt .item) (c .in-Ok .ensures tt .rest) ∙ i .2,
+      grown-more (postingsIn past) (postingOf (seenIn past) (length (ordersIn past)) item) _ _ _ (i .3) (grown-same _ _ _ _ posting (c .put .ensures .postings)),
+      grown-more (ordersIn past) (orderOf item) _ _ _ (i .4) (c .put .ensures .lines),
+      grown-more (runsIn past) (runOf item) _ _ _ (i .5) (c .put .ensures .runs),
+      c .note .ensures ∙ ap (λ s. noted (terms (c .loop-rest .plan)) (s .seen) item) (i .1) ∙ ap (λ p. noted p (seenIn past) item) (i .6),
+    )
 
 pub returns : need.returns
 returns c =

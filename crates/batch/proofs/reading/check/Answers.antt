@@ -35,12 +35,13 @@ loop-rest-again c =
     let i = c .loop-rest .inv in
     let item = c .in-Ok .judged .item in
     let rest = c .loop-rest .rest .now in
-    let more : 0 < length rest = omega (arith, false-eqb (length rest) 0 (c .loop-rest-test .ensures tt)) in
-    (item ∷ i .0,
-     known-more (c .loop-rest .known) _ (i .0) item (i .1) (c .enter .ensures),
-     omega (arith, i .2),
-     step-ok (c .args .sizes) (c .loop-rest .known) (i .0) rest (c .in-Ok .judged .rest .now) item (i .1) more (c .in-Ok .ensures tt .item) (c .in-Ok .ensures tt .rest) ∙ i .3,
-     omega (arith, i .4, ap length (c .in-Ok .ensures tt .rest), after-less rest more))
+    let more : 0 < length rest = omega (arith, false-eqb (length rest) 0 (c .loop-rest-test .ensures tt)) in (
+      item ∷ i .0,
+      known-more (c .loop-rest .known) _ (i .0) item (i .1) (c .enter .ensures),
+      omega (arith, i .2),
+      step-ok (c .args .sizes) (c .loop-rest .known) (i .0) rest (c .in-Ok .judged .rest .now) item (i .1) more (c .in-Ok .ensures tt .item) (c .in-Ok .ensures tt .rest) ∙ i .3,
+      omega (arith, i .4, ap length (c .in-Ok .ensures tt .rest), after-less rest more),
+    )
 
 pub returns-then-text-ne10 : need.returns-then-text-ne10
 returns-then-text-ne10 c =
@@ -51,7 +52,7 @@ returns-then-text-ne10 c =
     let none : length (c .loop-rest .rest .now) ≡ 0 = search needs in
     ap (λ n. Err (End n)) (i .2)
     ∙ sym (ap answered (batch-ended (c .args .sizes) (i .0) text (c .loop-rest .rest .now) some few (i .3) none
-      ∙ ap (λ (b : Bool). cond b (Ok (i .0)) (Err (End (length (i .0))))) (closes-open text (i .0) (c .if-text-ne10 .taken))))
+    ∙ ap (λ (b : Bool). cond b (Ok (i .0)) (Err (End (length (i .0))))) (closes-open text (i .0) (c .if-text-ne10 .taken))))
 
 pub returns-then-known : need.returns-then-known
 returns-then-known c =
@@ -62,7 +63,7 @@ returns-then-known c =
     let none : length (c .loop-rest .rest .now) ≡ 0 = search needs in
     ap (λ n. Err (End n)) (i .2)
     ∙ sym (ap answered (batch-ended (c .args .sizes) (i .0) text (c .loop-rest .rest .now) some few (i .3) none
-      ∙ ap (λ (b : Bool). cond b (Ok (i .0)) (Err (End (length (i .0))))) (closes-missing text (i .0) (c .loop-rest .known) (i .1) (c .if-known .taken))))
+    ∙ ap (λ (b : Bool). cond b (Ok (i .0)) (Err (End (length (i .0))))) (closes-missing text (i .0) (c .loop-rest .known) (i .1) (c .if-known .taken))))
 
 pub returns : need.returns
 returns c =
@@ -72,4 +73,4 @@ returns c =
     let few : length text ≤ 32768 = omega arith in
     let none : length (c .loop-rest .rest .now) ≡ 0 = search needs in
     sym (ap answered (batch-ended (c .args .sizes) (i .0) text (c .loop-rest .rest .now) some few (i .3) none
-      ∙ ap (λ (b : Bool). cond b (Ok (i .0)) (Err (End (length (i .0))))) (closes-well text (i .0) (c .loop-rest .known) (i .1) (c .if-text-ne10 .left) (c .if-known .left))))
+    ∙ ap (λ (b : Bool). cond b (Ok (i .0)) (Err (End (length (i .0))))) (closes-well text (i .0) (c .loop-rest .known) (i .1) (c .if-text-ne10 .left) (c .if-known .left))))
