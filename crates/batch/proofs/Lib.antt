@@ -5,3 +5,6 @@ pub mod Zeros
 pub mod Accepted
 pub mod Said
 pub mod Rolling
+pub mod Back
+pub mod TextParts
+pub mod Told

@@ -9,3 +9,4 @@ pub mod Refusals
 pub mod Reading
 pub mod Plans
 pub mod Tables
+pub mod Texts

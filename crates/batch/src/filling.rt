@@ -9,6 +9,7 @@ ghost use Rattle.roll.specs.Rolls.{items, capacityOf};
 ghost use Rattle.batch.specs.Limits.{Allowed};
 ghost use Rattle.batch.specs.Plans.{terms, planAfter};
 ghost use Rattle.batch.specs.Reading.{batch, answered};
+ghost use Rattle.batch.specs.Texts.{batchText};
 ghost use Rattle.batch.specs.Tables.{Grown, Tabled, postingOf, orderOf, runOf, postingsIn, ordersIn, runsIn, sizesOf};
 use crate::items::BatchRefusal;
 use crate::items::Item;
@@ -137,6 +138,7 @@ pub fn read_batch(
     ensures postings { λ _. ⌜ Tabled postingsIn (batch (sizesOf (now (postings .entry)) (now (lines .entry)) (now (runs .entry))) (now (text .entry))) (now (postings .entry)) (now (postings .exit)) ⌝ }
     ensures lines { λ _. ⌜ Tabled ordersIn (batch (sizesOf (now (postings .entry)) (now (lines .entry)) (now (runs .entry))) (now (text .entry))) (now (lines .entry)) (now (lines .exit)) ⌝ }
     ensures runs { λ _. ⌜ Tabled runsIn (batch (sizesOf (now (postings .entry)) (now (lines .entry)) (now (runs .entry))) (now (text .entry))) (now (runs .entry)) (now (runs .exit)) ⌝ }
+    ensures written { λ r. ⌜ (r ≡ Ok tt → now (text .entry) ≡ batchText (terms (now (plan .exit))) (items (now (postings .exit))) (items (now (lines .exit))) (items (now (runs .exit)))) ⌝ }
 {
     let sizes = Sizes {
         postings: postings.capacity(),

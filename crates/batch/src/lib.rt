@@ -3,6 +3,7 @@ mod cutting;
 mod filling;
 mod items;
 mod judging;
+mod laws;
 mod noting;
 mod numbers;
 mod plan;
@@ -12,6 +13,7 @@ mod records;
 
 pub use filling::read_batch;
 pub use items::BatchRefusal;
+pub use laws::batch_laws;
 pub use plan::Plan;
 pub use records::OrderLine;
 pub use records::Posting;

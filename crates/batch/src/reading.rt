@@ -8,7 +8,7 @@ use crate::judging::judge;
 use crate::progress::Progress;
 use crate::progress::Sizes;
 
-const MOST_BYTES: usize = 32_768;
+pub const MOST_BYTES: usize = 32_768;
 
 fn refusal_at(line: usize, fault: Fault) -> BatchRefusal
     ensures { λ r. ⌜ r ≡ refusalAt line fault ⌝ }
@@ -44,11 +44,12 @@ pub fn check(sizes: Sizes, text: &[u8]) -> Result<(), BatchRefusal>
             }
         }
     }
+    let unfinished = BatchRefusal::End(line);
     if text[text.len() - 1] != b'\n' {
-        return Err(BatchRefusal::End(line));
+        return Err(unfinished);
     }
     if known.seen != known.houses {
-        return Err(BatchRefusal::End(line));
+        return Err(unfinished);
     }
     Ok(())
 }
