@@ -24,7 +24,8 @@ pub struct Pair {
     pub value: i64,
 }
 
-// Which posting: a house (a client whose money is kept, from 0 to 15) and the number of its posting, from 1.
+// Which posting. A house, from 0 to 15, is a client whose money is kept: to the journal it is a process, which runs
+// transactions one after the other. A posting is one such transaction; a house's postings are numbered from 1.
 #[derive(Clone, Copy, PartialEq, Eq)]
 pub struct PostingId {
     pub house: u8,
@@ -38,7 +39,7 @@ pub struct Entry {
     pub number: u32,
     // A void posting gives no account a value.
     pub void: bool,
-    // The hand: the value that a house carries from one posting to its next, here as the posting leaves it.
+    // The hand is the value that a house carries from one posting to its next, here as this posting leaves it.
     pub hand: i64,
     // How many of the pairs count; the others are padding.
     pub count: u8,
