@@ -64,7 +64,7 @@ fn first_field(text: &[u8]) -> Cut<'_>
     }
 }
 
-pub fn first_line(text: &[u8]) -> Line<'_>
+pub(crate) fn first_line(text: &[u8]) -> Line<'_>
     ensures { λ r. ⌜ Split (now (text .entry)) (r .count) (now (r .mark)) (now (r .first)) (now (r .second)) (now (r .third)) (now (r .rest)) ⌝ }
 {
     let a = first_field(text);

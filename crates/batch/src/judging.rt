@@ -222,7 +222,11 @@ fn tested(sizes: &Sizes, known: &Progress, line: &Line) -> Result<Item, Fault>
 }
 
 // What the first line of the text says, after the lines before it.
-pub fn judge<'a>(sizes: &Sizes, known: &Progress, text: &'a [u8]) -> Result<Judged<'a>, Fault>
+pub(crate) fn judge<'a>(
+    sizes: &Sizes,
+    known: &Progress,
+    text: &'a [u8],
+) -> Result<Judged<'a>, Fault>
     ensures { λ r. ⌜ Judges (now (sizes .entry)) (now (known .entry)) (now (text .entry)) r ⌝ }
 {
     let line = first_line(text);

@@ -33,7 +33,7 @@ fn decimal_in(field: &[u8]) -> Option<u64>
 }
 
 // The number from `low` to `high` that the field writes.
-pub fn natural(field: &[u8], low: u64, high: u64) -> Option<u64>
+pub(crate) fn natural(field: &[u8], low: u64, high: u64) -> Option<u64>
     requires { ⌜ high ≤ 1000000000000000 ⌝ }
     ensures value { λ r. ⌜ r ≡ naturalIn low high (now (field .entry)) ⌝ }
     ensures within { λ r. ⌜ found r (λ n. (low ≤ n) × (n ≤ high)) ⌝ }
@@ -51,7 +51,7 @@ pub fn natural(field: &[u8], low: u64, high: u64) -> Option<u64>
 }
 
 // The cents from -10^15 to 10^15 that the field writes.
-pub fn cents(field: &[u8]) -> Option<i64>
+pub(crate) fn cents(field: &[u8]) -> Option<i64>
     ensures { λ r. ⌜ r ≡ centsIn (now (field .entry)) ⌝ }
 {
     if field.is_empty() {

@@ -47,7 +47,7 @@ pub struct Sizes {
 }
 
 impl Progress {
-    pub fn start() -> Self
+    pub(crate) fn start() -> Self
         ensures { λ r. ⌜ r ≡ start ⌝ }
     {
         Progress {
@@ -65,7 +65,7 @@ impl Progress {
     }
 
     // One more line.
-    pub fn enter(&mut self, item: Item, sizes: Sizes)
+    pub(crate) fn enter(&mut self, item: Item, sizes: Sizes)
         requires { ⌜ Allowed sizes (now self) item ⌝ }
         ensures { λ _. ⌜ now (self .exit) ≡ entered (now (self .entry)) item ⌝ }
     {

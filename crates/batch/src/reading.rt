@@ -22,7 +22,7 @@ fn refusal_at(line: usize, fault: Fault) -> BatchRefusal
 }
 
 // What reading the text into tables of these sizes answers.
-pub fn check(sizes: Sizes, text: &[u8]) -> Result<(), BatchRefusal>
+pub(crate) fn check(sizes: Sizes, text: &[u8]) -> Result<(), BatchRefusal>
     ensures { λ r. ⌜ r ≡ answered (batch sizes (now (text .entry))) ⌝ }
 {
     if text.is_empty() {

@@ -211,12 +211,22 @@ pub(crate) fn reads_none<R: Reading>(reading: &R, k: usize) -> Result<(), Fail> 
     reads_pairs(reading, k, &[])
 }
 
+// The value in the pair with this account.
+fn value_in(pairs: &[Pair], account: u8) -> Option<i64> {
+    for pair in pairs {
+        if pair.account == account {
+            return Some(pair.value);
+        }
+    }
+    None
+}
+
 // Entry `k` has these pairs and no others: there is none at a later place or for another account.
 fn reads_pairs<R: Reading>(reading: &R, k: usize, pairs: &[Pair]) -> Result<(), Fail> {
     for n in 0..=255u8 {
         let pair = parts_of_pair(reading.pair(k, n as usize));
         let expected = parts_of_pair(pairs.get(n as usize).copied());
-        check_eq((pair, reading.given(k, n)), (expected, e.value_for(n)))?;
+        check_eq((pair, reading.given(k, n)), (expected, value_in(pairs, n)))?;
     }
     Ok(())
 }

@@ -1,9 +1,9 @@
 // The same drafting takes a source that a customer writes.
 use crate::copies::Copies;
 use crate::copies::CopiesSource;
-use journal::ClosedBook;
-use journal::ClosedBookReading;
 use journal::PostingId;
+use leaves::ClosedBook;
+use leaves::ClosedBookReading;
 use posting::draft;
 use std::test::*;
 

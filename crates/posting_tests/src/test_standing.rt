@@ -2,10 +2,10 @@
 use journal::Cells;
 use journal::CellsJournal;
 use journal::CellsReading;
-use journal::ClosedBook;
-use journal::ClosedBookReading;
 use journal::Journal;
 use journal::PostingId;
+use leaves::ClosedBook;
+use leaves::ClosedBookReading;
 use posting::Draft;
 use posting::Source;
 use posting::StandingOrder;
