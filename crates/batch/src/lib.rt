@@ -1,4 +1,6 @@
 // Batches: the text that says what is to be posted, the plan and the tables that it fills, and its reader.
+#![tactic(auto)]
+
 mod cutting;
 mod filling;
 mod items;

@@ -1,5 +1,7 @@
 // Tells whether a batch is accepted, before anything is posted: reads its text from standard input, and prints why it is refused,
 // or what it holds.
+#![tactic(auto)]
+
 mod text;
 
 use std::io;

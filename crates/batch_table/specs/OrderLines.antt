@@ -1,7 +1,7 @@
 -- What an order line does, and which order lines there are.
 use Rattle.std.specs.Prelude.{Bool, true, cond, ◌&&◌, List, [], ◌∷◌, ℤ, ◌+ℤ◌, Some, None, Option, int_le, nat_le}
 use Rattle.journal.specs.Entries.{in_range}
-use Rattle.posting.specs.Sources.{go_on, next_hand}
+use Rattle.posting.specs.Standing.{go_on, next_hand}
 use Rattle.posting.specs.declared.order.Order.{Order}
 use Rattle.posting.specs.declared.order.Order.TheVariants as order
 use Rattle.batch.specs.declared.records.OrderLine.{OrderLine}

@@ -1,4 +1,6 @@
 // Batch tables: the tables that a batch fills as a source of postings, and which records a batch can give.
+#![tactic(auto)]
+
 mod in_order;
 mod order_lines;
 mod table;

@@ -1,7 +1,7 @@
 // What order lines do.
 ghost use Rattle.std.specs.Prelude.{◌≡◌, true};
 ghost use Rattle.journal.specs.Entries.{InRange};
-ghost use Rattle.posting.specs.Sources.{go_on};
+ghost use Rattle.posting.specs.Standing.{go_on};
 ghost use Rattle.batch_table.specs.OrderLines.{order_for, hand_for, line_in_range, lines_in_range};
 
 use batch::OrderLine;

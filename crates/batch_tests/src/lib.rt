@@ -1,4 +1,6 @@
 // Tests of the batch reader over tables of texts, and of batch tables.
+#![tactic(auto)]
+
 #[cfg(test)]
 mod table;
 #[cfg(test)]

@@ -1,4 +1,6 @@
 // Prints a closed book: reads its bytes from standard input, and writes its entries and the accounts that they give.
+#![tactic(auto)]
+
 mod text;
 
 use std::io;

@@ -34,7 +34,7 @@ entry_fields e =
 
 -- the line of entry k
 abbrev pub entry_line : ℕ → Posted → List ℕ
-entry_line k e = parted (decimal k ∷ entry_fields e) ++ (10 ∷ [])
+entry_line k e = decimal k ++ commaed (entry_fields e) ++ (10 ∷ [])
 
 abbrev pub line_number : LineRefusal → ℕ
 line_number NoSuchEntry = 44

@@ -1,4 +1,6 @@
 // Journals: lists of entries that only grow, what can be asked of them, and one journal, in the host's records.
+#![tactic(auto)]
+
 mod balances;
 mod cells;
 mod entry;

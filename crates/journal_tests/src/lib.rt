@@ -1,4 +1,6 @@
 // A customer's own journal and reading, and the tests of rolls and journals.
+#![tactic(auto)]
+
 mod first_entries;
 mod heap;
 mod heap_journal;

@@ -1,4 +1,6 @@
 // Journals in bytes: a leaf of 160 bytes for each entry, filed in or held for reading.
+#![tactic(auto)]
+
 mod book_check;
 mod book_reading;
 mod byte_journal;

@@ -7,7 +7,7 @@ use Rattle.journal.specs.Entries.{InRange, in_range}
 use Rattle.journal.specs.Readings.{given_in}
 use Rattle.posting.specs.Sources.{Meaning, asked}
 use Rattle.posting.specs.Alone.{Outcome, sought, noted, told, carried, line_of, pair_of, pairs_from, closed, after, worked, blank, alone}
-use Rattle.posting.specs.Standing.{good_order, order_at, line_order, line_found, standing}
+use Rattle.posting.specs.Standing.{good_order, order_at, go_on, next_hand, line_order, line_found, standing}
 use Rattle.posting.specs.Moves.{Stays, Moved, Moves, AlwaysMoves}
 use Rattle.posting.specs.declared.order.Order.{Order}
 use Rattle.posting.specs.declared.order.Order.TheVariants.{Read, Write, GoOn, Done, Void}

@@ -4,8 +4,8 @@ use lib.Signed.{le_z}
 use Rattle.std.proofs.lemmas.List.{get_or_past}
 use Rattle.std.proofs.lemmas.Bool.{and_parts, leb-true, eqb-true, cases_Bool, both_ways, cond-false, cond_both}
 use Rattle.journal.specs.Entries.{InRange, in_range}
-use Rattle.posting.specs.Sources.{OrderKept, HandKept, is_read, Limits, go_on, next_hand}
-use Rattle.posting.specs.Standing.{good_order, order_at, line_order, line_found, standing}
+use Rattle.posting.specs.Sources.{OrderKept, HandKept, is_read, Limits}
+use Rattle.posting.specs.Standing.{good_order, order_at, go_on, next_hand, line_order, line_found, standing}
 use Rattle.posting.specs.declared.order.Order.{Order}
 use Rattle.posting.specs.declared.order.Order.TheVariants.{Read, Write, GoOn, Done, Void}
 use Rattle.posting.specs.declared.standing_order.StandingOrder.{StandingOrder}

@@ -37,14 +37,6 @@ is_read (GoOn hand) = false
 is_read Done = false
 is_read Void = false
 
--- a hand out of range is void
-
-abbrev pub go_on : ℤ → Order
-go_on hand = cond (in_range hand) (GoOn hand) Void
-
-abbrev pub next_hand : ℤ → Option ℤ
-next_hand hand = cond (in_range hand) (Some hand) None
-
 -- the limits of a source, on every question
 pub record Limits (m : Meaning) : Type 0 where
   pub houses : m.houses ≤ 16

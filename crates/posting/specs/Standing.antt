@@ -1,9 +1,9 @@
 -- Standing orders: one record for each house. When the balance of `from` is above the floor, what is above it moves to `to`.
 use Rattle.std.specs.Prelude.{ℕ, ◌+◌, Bool, cond, ◌&&◌, List, [], ◌∷◌, length, ℤ, pos, ◌+ℤ◌, ◌-ℤ◌, is_ok, Some, None, Ok, Err, Option, Result, ◌==◌, int_le, nat_le, slice_index_or}
 use Rattle.journal.specs.Entries.{in_range}
-use Rattle.posting.specs.Sources.{Meaning, go_on, next_hand, void_outside}
+use Rattle.posting.specs.Sources.{Meaning, void_outside}
 use Rattle.posting.specs.declared.order.Order.{Order}
-use Rattle.posting.specs.declared.order.Order.TheVariants.{Read, Write, Done}
+use Rattle.posting.specs.declared.order.Order.TheVariants.{Read, Write, GoOn, Done, Void}
 use Rattle.posting.specs.declared.standing_order.StandingOrder.{StandingOrder}
 use Rattle.posting.specs.declared.standing_order.StandingRefusal.{StandingRefusal}
 use Rattle.posting.specs.declared.standing_order.StandingRefusal.TheVariants.{NotOneToSixteen, BadRecord}
@@ -41,6 +41,14 @@ orders_kept os = cond (is_ok (orders_checked os)) os []
 -- the record of a house; one without postings, where there is no such house
 abbrev pub order_at : List StandingOrder → ℕ → StandingOrder
 order_at os house = slice_index_or os house record { from = 0; to = 0; floor = pos 0; times = 0 }
+
+-- a hand out of range is void
+
+abbrev pub go_on : ℤ → Order
+go_on hand = cond (in_range hand) (GoOn hand) Void
+
+abbrev pub next_hand : ℤ → Option ℤ
+next_hand hand = cond (in_range hand) (Some hand) None
 
 -- the five lines of a posting: line 0 reads `from` into the hand, line 1 is done if the hand is at most the floor and else
 -- leaves the floor on `from`, line 2 takes the floor off the hand, line 3 adds what `to` has, and line 4 writes the hand to `to`

@@ -1,4 +1,6 @@
 // Postings: what sources of postings say, and what a posting worked alone gives.
+#![tactic(auto)]
+
 mod drafting;
 mod order;
 mod pairs;

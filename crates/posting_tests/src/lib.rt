@@ -1,4 +1,6 @@
 // A customer's own source of postings, and the tests of sources and of drafting.
+#![tactic(auto)]
+
 mod copies;
 #[cfg(test)]
 mod test_copies;

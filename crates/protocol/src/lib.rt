@@ -1,4 +1,6 @@
 // The rules of the office, as definitions over what sources and journals mean, and what holds of every office that follows them.
+#![tactic(auto)]
+
 mod laws;
 mod refusals;
 mod told;

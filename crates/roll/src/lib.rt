@@ -1,4 +1,6 @@
 // A roll: a bounded list that only grows, over cells that its maker lends it.
+#![tactic(auto)]
+
 ghost use Rattle.std.specs.Prelude.{◌≡◌, [], ◌∷◌, ◌++◌, length, drop, is_ok, if◌then◌else◌, slice_set};
 ghost use Rattle.std.specs.Option.{option_map};
 ghost use Rattle.std.specs.List.{slice_get};

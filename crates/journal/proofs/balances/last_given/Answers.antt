@@ -54,7 +54,7 @@ pub loop-place-preserved : goal.loop-place-preserved
 loop-place-preserved g c =
     let es = g.R.Reading.entries c.args.journal.now in
     let n = c.loop-place.place in
-    sym (back es c.args.account n None (search rules) c.in-default.ensures) ∙ c.loop-place.invariant
+    sym (back es c.args.account n None (search rules) c.in_default.ensures) ∙ c.loop-place.invariant
 
 pub returns : goal.returns
 returns g c =

@@ -9,14 +9,14 @@ step : (b : Bool) (least : ℕ) (ps : List Pair) (i : ℕ) → i < length ps →
 step b least ps i h e =
     ap (λ (x : Bool). x && rises ((pair_at ps i).account + 1) (drop (i + 1) ps)) e ∙ sym (at_drop_more (rises least) ps i _ h)
 
-pub returns-then-not-pair-fits : goal.returns-then-not-pair-fits
-returns-then-not-pair-fits c =
-    step false c.loop-pair.least c.args.pairs.now c.loop-pair.pair-index (search rules) c.if-not-pair-fits.ensures
+pub returns-then-not-pair_fits : goal.returns-then-not-pair_fits
+returns-then-not-pair_fits c =
+    step false c.loop-pair.least c.args.pairs.now c.loop-pair.pair-index (search rules) c.if-not-pair_fits.ensures
     ∙ c.loop-pair.invariant
 
 pub loop-pair-preserved : goal.loop-pair-preserved
 loop-pair-preserved c =
-    step true c.loop-pair.least c.args.pairs.now c.loop-pair.pair-index (search rules) c.if-not-pair-fits.ensures
+    step true c.loop-pair.least c.args.pairs.now c.loop-pair.pair-index (search rules) c.if-not-pair_fits.ensures
     ∙ c.loop-pair.invariant
 
 pub returns : goal.returns

@@ -11,5 +11,5 @@ returns-then-n-lt10 t c =
 pub returns-else-n-lt10 : goal.returns-else-n-lt10
 returns-else-n-lt10 t c =
     let fits : c.args.n < 2 ^ 64 = search rules in
-    then_written _ _ _ _ _ c.put-decimal-at.ensures c.put-else-n-lt10.ensures
+    then_written _ _ _ _ _ c.put_decimal-at.ensures c.put-else-n-lt10.ensures
     ∙ ap (λ bs. written bs (c.args.at, c.args.out.now)) (sym (decimal_step c.args.n c.if-n-lt10.false fits))

@@ -7,7 +7,7 @@ pub returns-then-length-out : goal.returns-then-length-out
 returns-then-length-out g c =
     let entry = slice_get (g.R.Reading.entries c.args.journal.now) c.args.k in
     let long : length c.args.out.now < c.in-Some.length = omega arith in
-    let refused = line_too_long entry c.args.k _ _ c.put-line.new.out c.args.out.now c.in-Some.ensures long in
+    let refused = line_too_long entry c.args.k _ _ c.put_line.new.out c.args.out.now c.in-Some.ensures long in
     record { answer = refused.0; bytes = refused.1 }
 
 pub returns : goal.returns
@@ -15,5 +15,5 @@ returns g c =
     let entry = slice_get (g.R.Reading.entries c.args.journal.now) c.args.k in
     let fits : c.in-Some.length ≤ length c.args.out.now = omega arith in
     let small : length c.args.out.now < 2 ^ 64 - 1 = search rules in
-    let done = line_fits entry c.args.k _ _ c.put-line.new.out c.args.out.now c.put-line-2.new.out _ c.in-Some.ensures fits small c.put-line-2.ensures in
+    let done = line_fits entry c.args.k _ _ c.put_line.new.out c.args.out.now c.put_line-2.new.out _ c.in-Some.ensures fits small c.put_line-2.ensures in
     record { answer = done.0; bytes = done.1 }

@@ -11,4 +11,4 @@ returns c =
       | then-at-out w ↦ w.out-is
       | else-at-out w ↦ let past : length c.args.out.now ≤ c.args.at = omega arith in w.out-is ∙ sym (set_past _ _ _ past)
     ] in
-    written_one _ _ _ _ _ c.saturating-add.ensures bytes
+    written_one _ _ _ _ _ c.saturating_add.ensures bytes

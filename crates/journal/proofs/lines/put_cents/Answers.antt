@@ -8,5 +8,5 @@ use Rattle.journal.proofs.lines.put_cents.Goals as goal
 
 pub returns : goal.returns
 returns c =
-    one_field _ _ _ _ c.put-at.ensures c.put-signed.ensures
+    one_field _ _ _ _ c.put-at.ensures c.put_signed.ensures
     ∙ ap (λ z. written (commaed (signed_decimal z ∷ [])) (c.args.at, c.args.out.now)) (to_z-of_z w64 c.args.cents c.ranges.cents)

@@ -5,7 +5,7 @@ use Rattle.journal.proofs.lines.put_line.Goals as goal
 
 pub returns : goal.returns
 returns g c =
-    let fits : SFits w64 c.in-ok-hand.hand = search rules in
+    let fits : SFits w64 c.in_ok-hand.hand = search rules in
     line_from_parts _ _ _ _ _ _ _ _ _ _ _
-    c.in-ok-id.ensures c.in-ok-void.ensures c.in-ok-hand.ensures c.in-ok-count.ensures
-    (to_z-of_z w64 c.in-ok-hand.hand fits) c.put-head-at.ensures c.put-pairs-at.ensures c.put.ensures
+    c.in_ok-id.ensures c.in_ok-void.ensures c.in_ok-hand.ensures c.in_ok-count.ensures
+    (to_z-of_z w64 c.in_ok-hand.hand fits) c.put_head-at.ensures c.put_pairs-at.ensures c.put.ensures

@@ -9,5 +9,5 @@ use Rattle.journal.proofs.lines.put_pair.Goals as goal
 pub returns : goal.returns
 returns c =
     let fits : SFits w64 c.args.pair.value = search rules in
-    then_fields _ _ _ _ _ c.put-field-at.ensures c.put-cents.ensures
+    then_fields _ _ _ _ _ c.put_field-at.ensures c.put_cents.ensures
     ∙ ap (λ z. written (commaed (decimal c.args.pair.account ∷ signed_decimal z ∷ [])) (c.args.at, c.args.out.now)) (to_z-of_z w64 c.args.pair.value fits)

@@ -9,8 +9,8 @@ use Rattle.journal.proofs.lines.put_signed.Goals as goal
 pub returns-then-z-lt0 : goal.returns-then-z-lt0
 returns-then-z-lt0 c =
     let back = to_z-of_z w64 c.args.z c.ranges.z in
-    let whole : 45 ∷ decimal c.unsigned-abs-size.result ≡ signed_decimal c.args.z =
-    ap (λ n. 45 ∷ decimal n) (c.unsigned-abs-size.ensures.value ∙ ap nat_abs back)
+    let whole : 45 ∷ decimal c.unsigned_abs-size.result ≡ signed_decimal c.args.z =
+    ap (λ n. 45 ∷ decimal n) (c.unsigned_abs-size.ensures.value ∙ ap nat_abs back)
     ∙ signed_below c.args.z (ap (λ z. lt_z z (pos 0)) (sym back) ∙ c.if-z-lt0.true) in
-    then_written _ _ _ (45 ∷ []) _ c.put-at.ensures c.put-decimal.ensures
+    then_written _ _ _ (45 ∷ []) _ c.put-at.ensures c.put_decimal.ensures
     ∙ ap (λ bs. written bs (c.args.at, c.args.out.now)) whole

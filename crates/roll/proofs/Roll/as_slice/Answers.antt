@@ -3,8 +3,8 @@ use Rattle.std.proofs.lemmas.List.{length-take}
 use Rattle.roll.proofs.Places.{take_front}
 use Rattle.roll.proofs.Roll.as_slice.Goals as goal
 
-pub slice-bounds-result-end : goal.slice-bounds-result-end
-slice-bounds-result-end g c =
+pub slice_bounds-result-end : goal.slice_bounds-result-end
+slice_bounds-result-end g c =
     let r = c.args.self.now in
     omega (arith, c.len-used.ensures, length-take r.used r.cells.now, length-take c.len-used.result r.cells.now)
 

@@ -17,7 +17,7 @@ returns-in-Ok c =
     let short : length xs < 4096 = omega (arith, c.length-length.ensures) in
     let all : length xs ≡ length (map posted (take 4096 xs)) = omega arith in
     record {
-      answer = filing_ok c.args.e.now c.args.place (length (cell_entries s)) (cell_size s) c.if-not-is-entry.ensures.test (omega (arith, c.length-length.ensures)) (omega arith);
+      answer = filing_ok c.args.e.now c.args.place (length (cell_entries s)) (cell_size s) c.if-not-is_entry.ensures.test (omega (arith, c.length-length.ensures)) (omega arith);
       entries = records_push xs _ c.args.e.now short c.in-Ok.ensures.items;
       size = ap (λ (n : ℕ). min n 4096) c.in-Ok.ensures.capacity;
       cells = c.in-Ok.ensures.cells ∙ ap (λ (n : ℕ). set (cells_of r) n c.args.e.now) all;
@@ -31,7 +31,7 @@ returns-in-Err c =
     let long = length_records xs in
     let full = was_full _ _ _ c.in-Err.ensures.answer refl in
     record {
-      answer = filing_full c.args.e.now c.args.place (length (cell_entries s)) (cell_size s) c.if-not-is-entry.ensures.test (omega (arith, c.length-length.ensures)) (omega arith);
+      answer = filing_full c.args.e.now c.args.place (length (cell_entries s)) (cell_size s) c.if-not-is_entry.ensures.test (omega (arith, c.length-length.ensures)) (omega arith);
       entries = ap (λ (ys : List Entry). map posted (take 4096 ys)) c.in-Err.ensures.items;
       size = ap (λ (n : ℕ). min n 4096) c.in-Err.ensures.capacity;
       cells = c.in-Err.ensures.cells;

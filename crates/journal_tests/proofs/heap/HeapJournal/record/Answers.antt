@@ -10,5 +10,5 @@ pub returns : goal.returns
 returns c =
     let k = c.args.k in
     lent_nth posted (vec_items c.args.self.now.entries) k c.get.result
-    (item_nth c.deref.result.now k c.get.result c.get.ensures.finds
+    (item_nth c.deref.result.now k c.get.result c.get.ensures.lookup
     ∙ ap (λ (es : List Entry). slice_get es k) c.deref.ensures.value)

@@ -8,6 +8,6 @@ use Rattle.journal_tests.proofs.heap_journal.HeapJournalReading.pair.Goals as go
 pub returns-in-Some : goal.returns-in-Some
 returns-in-Some c =
     c.copied.ensures
-    ∙ item_nth _ c.args.j c.get.result c.get.ensures.finds
+    ∙ item_nth _ c.args.j c.get.result c.get.ensures.lookup
     ∙ ap (λ (ps : List Pair). slice_get ps c.args.j) c.counted-pairs.ensures.value
     ∙ ap (pair_of c.args.j) c.in-Some.ensures
