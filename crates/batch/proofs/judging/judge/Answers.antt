@@ -9,13 +9,13 @@ returns c =
     let t = c.args.sizes.now in
     let s = c.args.known.now in
     let text = c.args.text.now in
-    let l = c.first-line-line.result in
-    let item = c.in-ok-item-2.item in
-    let split = split_judged t s text l.count l.mark.now l.first.now l.second.now l.third.now l.rest.now c.first-line-line.ensures in
-    let e : judged t s (fields (first_line text)) ≡ Ok item = sym split ∙ sym c.tested.ensures ∙ c.in-ok-item-2.was in
+    let l = c.first_line-line.result in
+    let item = c.in_ok-item-2.item in
+    let split = split_judged t s text l.count l.mark.now l.first.now l.second.now l.third.now l.rest.now c.first_line-line.ensures in
+    let e : judged t s (fields (first_line text)) ≡ Ok item = sym split ∙ sym c.tested.ensures ∙ c.in_ok-item-2.was in
     record {
       item = e;
-      rest = c.first-line-line.ensures.rest (judged_few t s (fields (first_line text)) item e);
+      rest = c.first_line-line.ensures.rest (judged_few t s (fields (first_line text)) item e);
       allowed = judged_allowed t s (fields (first_line text)) item e;
     }
 
@@ -24,9 +24,9 @@ returns-in-Some c =
     let t = c.args.sizes.now in
     let s = c.args.known.now in
     let text = c.args.text.now in
-    let item = c.in-ok-item.item in
+    let item = c.in_ok-item.item in
     let l = c.in-Some.ensures in
-    let e : judged t s (fields (first_line text)) ≡ Ok item = ap (judged t s) l.0 ∙ sym c.posts.ensures ∙ c.in-ok-item.was in
+    let e : judged t s (fields (first_line text)) ≡ Ok item = ap (judged t s) l.0 ∙ sym c.posts.ensures ∙ c.in_ok-item.was in
     record {
       item = e;
       rest = l.1;

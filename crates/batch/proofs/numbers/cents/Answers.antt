@@ -4,8 +4,8 @@ use Rattle.std.specs.Option.{option_map}
 use Rattle.batch.proofs.Signs.{cents_none, cents_minus, cents_plain, minus_value}
 use Rattle.batch.proofs.numbers.cents.Goals as goal
 
-pub returns-then-is-empty : goal.returns-then-is-empty
-returns-then-is-empty c = let z : length c.args.field.now ≡ 0 = search rules in sym (cents_none c.args.field.now z)
+pub returns-then-is_empty : goal.returns-then-is_empty
+returns-then-is_empty c = let z : length c.args.field.now ≡ 0 = search rules in sym (cents_none c.args.field.now z)
 
 pub returns-in-Some : goal.returns-in-Some
 returns-in-Some c =

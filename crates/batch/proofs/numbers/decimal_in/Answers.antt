@@ -2,8 +2,8 @@ use Rattle.std.proofs.Common.{◌≡◌, ℕ, ◌^◌, ◌<◌, ◌≤◌, lengt
 use Rattle.batch.proofs.Digits.{unwritten_none, unwritten_zero, unwritten_low, unwritten_high, unwritten_large, written_zero, written_all, digits_more, read_more}
 use Rattle.batch.proofs.numbers.decimal_in.Goals as goal
 
-pub returns-then-is-empty : goal.returns-then-is-empty
-returns-then-is-empty c = let z : length c.args.field.now ≡ 0 = search rules in unwritten_none c.args.field.now z
+pub returns-then-is_empty : goal.returns-then-is_empty
+returns-then-is_empty c = let z : length c.args.field.now ≡ 0 = search rules in unwritten_none c.args.field.now z
 
 pub returns-then-c-lt48 : goal.returns-then-c-lt48
 returns-then-c-lt48 c = unwritten_low c.args.field.now c.loop-c.c-index (omega arith) c.if-c-lt48.true
@@ -11,8 +11,8 @@ returns-then-c-lt48 c = unwritten_low c.args.field.now c.loop-c.c-index (omega a
 pub returns-then-c-gt57 : goal.returns-then-c-gt57
 returns-then-c-gt57 c = unwritten_high c.args.field.now c.loop-c.c-index (omega arith) c.if-c-gt57.true
 
-pub returns-then-n-gt-MOST-CENTS : goal.returns-then-n-gt-MOST-CENTS
-returns-then-n-gt-MOST-CENTS c = unwritten_large c.args.field.now (drop c.loop-c.c-index c.args.field.now) c.loop-c.n c.loop-c.invariant.0 (omega arith)
+pub returns-then-n-gt-MOST_CENTS : goal.returns-then-n-gt-MOST_CENTS
+returns-then-n-gt-MOST_CENTS c = unwritten_large c.args.field.now (drop c.loop-c.c-index c.args.field.now) c.loop-c.n c.loop-c.invariant.0 (omega arith)
 
 pub loop-c-preserved : goal.loop-c-preserved
 loop-c-preserved c =

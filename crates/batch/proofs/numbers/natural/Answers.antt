@@ -2,8 +2,8 @@ use Rattle.std.proofs.Common.{◌≡◌, sym, arith}
 use Rattle.batch.proofs.Digits.{natural_some, natural_unwritten, natural_below, natural_above}
 use Rattle.batch.proofs.numbers.natural.Goals as goal
 
-pub returns-in-default : goal.returns-in-default
-returns-in-default c = record { value = sym (natural_unwritten c.args.low c.args.high c.args.field.now c.requires c.in-default.ensures); within = tt }
+pub returns-in_default : goal.returns-in_default
+returns-in_default c = record { value = sym (natural_unwritten c.args.low c.args.high c.args.field.now c.requires c.in_default.ensures); within = tt }
 
 pub returns-then-n-low : goal.returns-then-n-low
 returns-then-n-low c = record { value = sym (natural_below c.args.low c.args.high c.in-Some.n c.args.field.now c.requires (omega arith) c.in-Some.ensures (omega arith)); within = tt }

@@ -4,7 +4,7 @@ use Rattle.leaves.proofs.book_check.check_book.Goals as goal
 
 pub loop-k-preserved : goal.loop-k-preserved
 loop-k-preserved c =
-    below_more _ _ c.loop-k.invariant (subst IsLeaf c.leaf-slice.ensures.value (c.if-not-is-leaf.ensures.0 refl))
+    below_more _ _ c.loop-k.invariant (subst IsLeaf c.leaf_slice.ensures.value (c.if-not-is_leaf.ensures.0 refl))
 
 pub returns : goal.returns
 returns c = record { whole = (omega arith, omega arith); leaves = λ j l. c.loop-k.invariant j (omega arith) }

@@ -13,12 +13,12 @@ pub loop-j-preserved : goal.loop-j-preserved
 loop-j-preserved c =
     let bs = c.args.leaf.now in
     let j = c.loop-j.j in
-    let f : SFits w64 c.read-i64.result = search rules in
+    let f : SFits w64 c.read_i64.result = search rules in
     let lt : j < length c.loop-j.pairs = omega arith in
     let ks = drop 16 bs in
     let vs = drop 32 bs in
-    let z0 = to_z w64 (of_z w64 c.read-i64.result) in
-    let value = to_z-of_z w64 c.read-i64.result f ∙ c.read-i64.ensures ∙ ap signed_of (sym (drop-drop (8 * j) 32 bs)) in (
+    let z0 = to_z w64 (of_z w64 c.read_i64.result) in
+    let value = to_z-of_z w64 c.read_i64.result f ∙ c.read_i64.ensures ∙ ap signed_of (sym (drop-drop (8 * j) 32 bs)) in (
       take_more_set c.loop-j.pairs j _ lt
           ∙ ap (λ (ps : List Pair). ps ++ pair (get_or bs (16 + j) 0) z0 ∷ []) c.loop-j.invariant.0
           ∙ ap (λ (a : ℕ). pairs_on j ks vs ++ pair a z0 ∷ []) (sym (get_or-drop 16 bs j 0))

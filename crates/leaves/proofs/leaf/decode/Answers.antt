@@ -16,14 +16,14 @@ number_at bs = simp get_or-drop
 pub returns : goal.returns
 returns c =
     let bs = c.args.leaf.now in
-    let f : SFits w64 c.read-i64.result = search rules in
-    let number = c.from-be-bytes.ensures ∙ number_at bs in
-    let hand = to_z-of_z w64 c.read-i64.result f ∙ c.read-i64.ensures in
-    let pairs = ap (λ (ps : List Pair). take (get_or bs 2 0) ps) c.all-pairs.ensures ∙ take_pairs (get_or bs 2 0) 16 (drop 16 bs) (drop 32 bs) in
+    let f : SFits w64 c.read_i64.result = search rules in
+    let number = c.from_be_bytes.ensures ∙ number_at bs in
+    let hand = to_z-of_z w64 c.read_i64.result f ∙ c.read_i64.ensures in
+    let pairs = ap (λ (ps : List Pair). take (get_or bs 2 0) ps) c.all_pairs.ensures ∙ take_pairs (get_or bs 2 0) 16 (drop 16 bs) (drop 32 bs) in
     record {
       says =
-          ap (λ (n : ℕ). built bs n (to_z w64 (of_z w64 c.read-i64.result)) (take (get_or bs 2 0) c.all-pairs.result)) number
-          ∙ ap (λ (d : ℤ). built bs (entry_on bs).number d (take (get_or bs 2 0) c.all-pairs.result)) hand
+          ap (λ (n : ℕ). built bs n (to_z w64 (of_z w64 c.read_i64.result)) (take (get_or bs 2 0) c.all_pairs.result)) number
+          ∙ ap (λ (d : ℤ). built bs (entry_on bs).number d (take (get_or bs 2 0) c.all_pairs.result)) hand
           ∙ ap (λ (ps : List Pair). built bs (entry_on bs).number (entry_on bs).hand ps) pairs;
       count = refl;
     }

@@ -9,6 +9,6 @@ pub returns : goal.returns
 returns c =
     let e = c.args.e.now in
     let f : SFits w64 e.hand = search rules in
-    let hand = c.to-be-bytes-h.ensures ∙ ap signed_bytes (to_z-of_z w64 e.hand f) in
-    c.copy-from-slice.ensures.after
-    ∙ head-is (posted e) _ c.args.count _ _ c.void-mark-void.ensures c.requires.counted c.to-be-bytes-n.ensures hand
+    let hand = c.to_be_bytes-h.ensures ∙ ap signed_bytes (to_z-of_z w64 e.hand f) in
+    c.copy_from_slice.ensures.after
+    ∙ head-is (posted e) _ c.args.count _ _ c.void_mark-void.ensures c.requires.counted c.to_be_bytes-n.ensures hand

@@ -14,8 +14,8 @@ loop-j-preserved c =
     let j = c.loop-j.j in
     let w = (8 * j + 8) - 8 * j in
     let f : SFits w64 (pair_at ps j).value = search rules in
-    let bytes = c.copy-from-slice.ensures.after ∙ c.to-be-bytes-bytes.ensures ∙ ap signed_bytes (to_z-of_z w64 (pair_at ps j).value f) in
-    ap (λ (xs : List ℕ). put_mid (8 * j) w xs c.copy-from-slice.new.self) c.loop-j.invariant
+    let bytes = c.copy_from_slice.ensures.after ∙ c.to_be_bytes-bytes.ensures ∙ ap signed_bytes (to_z-of_z w64 (pair_at ps j).value f) in
+    ap (λ (xs : List ℕ). put_mid (8 * j) w xs c.copy_from_slice.new.self) c.loop-j.invariant
     ∙ value_more ps j w _ (search rules) (omega arith) bytes
 
 pub returns : goal.returns

@@ -13,5 +13,5 @@ word_at bs at = simp (get_or-drop, add-zero)
 
 pub returns : goal.returns
 returns c =
-    let f : SFits w64 c.from-be-bytes.result = search rules in
-    to_z-of_z w64 c.from-be-bytes.result f ∙ c.from-be-bytes.ensures ∙ ap (to_z w64) (sym (word_at c.args.bytes.now c.args.at))
+    let f : SFits w64 c.from_be_bytes.result = search rules in
+    to_z-of_z w64 c.from_be_bytes.result f ∙ c.from_be_bytes.ensures ∙ ap (to_z w64) (sym (word_at c.args.bytes.now c.args.at))

@@ -15,23 +15,23 @@ pub loop-j-init : goal.loop-j-init
 loop-j-init c =
     let bs = c.args.leaf.now in
     let n = min (get_or bs 2 0) 16 in
-    let is : c.pair-count-count.result - 0 ≡ n = omega (arith, c.pair-count-count.ensures.value, length_pairs n (drop 16 bs) (drop 32 bs)) in
+    let is : c.pair_count-count.result - 0 ≡ n = omega (arith, c.pair_count-count.ensures.value, length_pairs n (drop 16 bs) (drop 32 bs)) in
     ap (λ (k : ℕ). given_in (pairs_on k (drop 16 bs) (drop 32 bs)) c.args.account) is
 
 pub returns-then-leaf-j : goal.returns-then-leaf-j
 returns-then-leaf-j c =
     let bs = c.args.leaf.now in
     let j = c.loop-j.j in
-    let f : SFits w64 c.read-i64.result = search rules in
-    let h : j < c.pair-count-count.result = search rules in
-    ap Some (to_z-of_z w64 c.read-i64.result f ∙ c.read-i64.ensures)
-    ∙ sym (next bs c.pair-count-count.result j c.args.account h ∙ cond-true (eqb (get_or bs (16 + j) 0) c.args.account) _ _ (eq-eqb _ _ c.if-leaf-j.true))
+    let f : SFits w64 c.read_i64.result = search rules in
+    let h : j < c.pair_count-count.result = search rules in
+    ap Some (to_z-of_z w64 c.read_i64.result f ∙ c.read_i64.ensures)
+    ∙ sym (next bs c.pair_count-count.result j c.args.account h ∙ cond-true (eqb (get_or bs (16 + j) 0) c.args.account) _ _ (eq-eqb _ _ c.if-leaf-j.true))
     ∙ c.loop-j.invariant
 
 pub loop-j-preserved : goal.loop-j-preserved
 loop-j-preserved c =
     let bs = c.args.leaf.now in
     let j = c.loop-j.j in
-    let h : j < c.pair-count-count.result = search rules in
-    sym (next bs c.pair-count-count.result j c.args.account h ∙ cond-false (eqb (get_or bs (16 + j) 0) c.args.account) _ _ (ne_eqb _ _ c.if-leaf-j.false))
+    let h : j < c.pair_count-count.result = search rules in
+    sym (next bs c.pair_count-count.result j c.args.account h ∙ cond-false (eqb (get_or bs (16 + j) 0) c.args.account) _ _ (ne_eqb _ _ c.if-leaf-j.false))
     ∙ c.loop-j.invariant

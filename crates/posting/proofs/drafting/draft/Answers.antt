@@ -20,40 +20,40 @@ pub close-requires : goal.close-requires
 close-requires g c =
     let few = lines_few (g.S.Source.meaning c.args.source.now) c.args.posting.house c.args.posting.number
     (balances_after (g.R.Reading.entries c.args.journal.now) c.args.openings.now c.args.k) c.loop-line.line c.loop-line.sheet _ _ c.loop-line.invariant.1 c.in-Ended.ensures in
-    omega (arith, c.longest-posting-lines.ensures.value, c.longest-posting-lines.ensures.limits.short, few)
+    omega (arith, c.longest_posting-lines.ensures.value, c.longest_posting-lines.ensures.limits.short, few)
 
 pub returns-in-Ended : goal.returns-in-Ended
 returns-in-Ended g c = record {
   value =
       c.close.ensures.value ∙ worked_ended _ _ _ _ _ _ _ _ _ c.loop-line-test.true c.in-Ended.ensures ∙ c.loop-line.invariant.0
-      ∙ worked_same _ _ _ _ _ _ _ _ (to_z-of_z w64 c.args.start c.ranges.start) c.longest-posting-lines.ensures.value;
+      ∙ worked_same _ _ _ _ _ _ _ _ (to_z-of_z w64 c.args.start c.ranges.start) c.longest_posting-lines.ensures.value;
   counted = c.close.ensures.counted;
-  local = always_local _ c.longest-posting-lines.ensures.limits;
-  enterable = always_enterable _ c.longest-posting-lines.ensures.limits;
+  local = always_local _ c.longest_posting-lines.ensures.limits;
+  enterable = always_enterable _ c.longest_posting-lines.ensures.limits;
 }
 
 pub returns-in-Voided : goal.returns-in-Voided
 returns-in-Voided g c = record {
   value =
       c.spoil.ensures.value ∙ worked_voided _ _ _ _ _ _ _ _ _ c.loop-line-test.true c.in-Voided.ensures ∙ c.loop-line.invariant.0
-      ∙ worked_same _ _ _ _ _ _ _ _ (to_z-of_z w64 c.args.start c.ranges.start) c.longest-posting-lines.ensures.value;
+      ∙ worked_same _ _ _ _ _ _ _ _ (to_z-of_z w64 c.args.start c.ranges.start) c.longest_posting-lines.ensures.value;
   counted = c.spoil.ensures.counted;
-  local = always_local _ c.longest-posting-lines.ensures.limits;
-  enterable = always_enterable _ c.longest-posting-lines.ensures.limits;
+  local = always_local _ c.longest_posting-lines.ensures.limits;
+  enterable = always_enterable _ c.longest_posting-lines.ensures.limits;
 }
 
 pub close-requires-2 : goal.close-requires-2
 close-requires-2 g c =
-    omega (arith, c.loop-line.invariant.1, c.longest-posting-lines.ensures.value, c.longest-posting-lines.ensures.limits.short)
+    omega (arith, c.loop-line.invariant.1, c.longest_posting-lines.ensures.value, c.longest_posting-lines.ensures.limits.short)
 
 pub returns : goal.returns
 returns g c =
-    let out : c.longest-posting-lines.result - c.loop-line.line ≡ 0 = omega arith in
+    let out : c.longest_posting-lines.result - c.loop-line.line ≡ 0 = omega arith in
     record {
       value =
           c.close-2.ensures.value ∙ worked_out _ _ _ _ _ _ _ _ out ∙ c.loop-line.invariant.0
-          ∙ worked_same _ _ _ _ _ _ _ _ (to_z-of_z w64 c.args.start c.ranges.start) c.longest-posting-lines.ensures.value;
+          ∙ worked_same _ _ _ _ _ _ _ _ (to_z-of_z w64 c.args.start c.ranges.start) c.longest_posting-lines.ensures.value;
       counted = c.close-2.ensures.counted;
-      local = always_local _ c.longest-posting-lines.ensures.limits;
-      enterable = always_enterable _ c.longest-posting-lines.ensures.limits;
+      local = always_local _ c.longest_posting-lines.ensures.limits;
+      enterable = always_enterable _ c.longest_posting-lines.ensures.limits;
     }

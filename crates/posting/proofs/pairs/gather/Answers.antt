@@ -6,7 +6,7 @@ use Rattle.posting.proofs.pairs.gather.Goals as goal
 
 pub loop-account-init : goal.loop-account-init
 loop-account-init c =
-    (omega (arith, c.no-pairs-list.ensures.count), c.no-pairs-list.ensures.room, gather_none c.args.written.now _ c.no-pairs-list.ensures.value)
+    (omega (arith, c.no_pairs-list.ensures.count), c.no_pairs-list.ensures.room, gather_none c.args.written.now _ c.no_pairs-list.ensures.value)
 
 pub loop-account-preserved : goal.loop-account-preserved
 loop-account-preserved c =

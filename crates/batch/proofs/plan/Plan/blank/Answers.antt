@@ -2,5 +2,5 @@ use Rattle.std.proofs.Common.{ℕ, pos, nat_abs, ap, arith, rules}
 use Rattle.batch.proofs.Zeros.{all_same}
 use Rattle.batch.proofs.plan.Plan.blank.Goals as goal
 
-pub invariant-of-result : goal.invariant-of-result
-invariant-of-result c = ((omega arith, omega arith), ((omega arith, omega arith), ((omega arith, omega arith), ((λ k. omega (arith, all_same {X = ℕ} 16 k 0)), ((λ k. omega (arith, ap nat_abs (all_same 64 k (pos 0)))), tt)))))
+pub invariant_of-result : goal.invariant_of-result
+invariant_of-result c = ((omega arith, omega arith), ((omega arith, omega arith), ((omega arith, omega arith), ((λ k. omega (arith, all_same {X = ℕ} 16 k 0)), ((λ k. omega (arith, ap nat_abs (all_same 64 k (pos 0)))), tt)))))

@@ -6,21 +6,21 @@ use Rattle.batch.specs.Limits.{Within}
 use Rattle.batch.proofs.Zeros.{all_same, set_all}
 use Rattle.batch.proofs.plan.Plan.note.Goals as goal
 
-pub invariant-of-self : goal.invariant-of-self
-invariant-of-self c =
+pub invariant_of-self : goal.invariant_of-self
+invariant_of-self c =
     let w : Within c.args.known.now (Begins c.in-Begins.head) = subst (Within c.args.known.now) c.in-Begins.is c.requires.within in
     (w.0, (w.1, (w.2, ((λ k. omega (arith, all_same {X = ℕ} 16 k 0, w.1.0)), ((λ k. omega (arith, ap nat_abs (all_same 64 k (pos 0)))), tt)))))
 
-pub invariant-of-self-in-Opened : goal.invariant-of-self-in-Opened
-invariant-of-self-in-Opened c =
+pub invariant_of-self-in-Opened : goal.invariant_of-self-in-Opened
+invariant_of-self-in-Opened c =
     let p = c.args.self.now in
     let o = c.in-Opened.opens in
     let w : Within c.args.known.now (Opened o) = subst (Within c.args.known.now) c.in-Opened.is c.requires.within in
     let f : SFits w64 o.cents = search rules in
     (p.house, (p.worker, (p.patient, (p.kept, (set_all InRange p.openings o.account _ (pos 0) p.ranged (subst InRange (sym (to_z-of_z w64 o.cents f)) w.2), tt)))))
 
-pub invariant-of-self-in-Kept : goal.invariant-of-self-in-Kept
-invariant-of-self-in-Kept c =
+pub invariant_of-self-in-Kept : goal.invariant_of-self-in-Kept
+invariant_of-self-in-Kept c =
     let p = c.args.self.now in
     let w : Within c.args.known.now (Kept c.in-Kept.keeper) = subst (Within c.args.known.now) c.in-Kept.is c.requires.within in
     let k : c.in-Kept.keeper < p.workers = omega (arith, w.1, c.requires.workers, p.worker.0) in

@@ -6,13 +6,13 @@ use Rattle.leaves.proofs.PageEntries.{length_entries}
 use Rattle.leaves.proofs.PageBooks.{front_entries, front_good}
 use Rattle.leaves.proofs.byte_journal.Leaves.as_bytes.Goals as goal
 
-pub overflow-mul-end : goal.overflow-mul-end
-overflow-mul-end c =
+pub overflow_mul-end : goal.overflow_mul-end
+overflow_mul-end c =
     let l = c.args.self.now in
     omega (arith, c.length-end.ensures, length_entries (leaves_used l.used l.bytes.now) l.bytes.now)
 
-pub slice-bounds-result-end : goal.slice-bounds-result-end
-slice-bounds-result-end c =
+pub slice_bounds-result-end : goal.slice_bounds-result-end
+slice_bounds-result-end c =
     let l = c.args.self.now in
     let bs = l.bytes.now in
     let n = c.length-end.result in

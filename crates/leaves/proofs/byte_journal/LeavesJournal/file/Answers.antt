@@ -27,7 +27,7 @@ returns c =
     let used = leaves_used s.used bs in
     let n = c.length-length.result in
     let is : n ≡ used = c.length-length.ensures ∙ length_entries used bs in
-    let ok = c.if-not-is-entry.ensures.decides.0 refl in
+    let ok = c.if-not-is_entry.ensures.decides.0 refl in
     let leaf = leaf_of (posted e) in
     let ll = length_leaf (posted e) ok.lawful.few in
     let size = c.size.ensures.value in
@@ -37,7 +37,7 @@ returns c =
     let same : length after ≡ length bs = ap length put ∙ length_put bs leaf n ll room in
     let more : leaves_used (n + 1) after ≡ n + 1 = omega arith in
     record {
-      answer = filing_ok e c.args.place (length (leaf_entries s)) (leaf_size s) c.if-not-is-entry.ensures.test (omega (arith, c.length-length.ensures)) (omega (arith, c.length-length.ensures));
+      answer = filing_ok e c.args.place (length (leaf_entries s)) (leaf_size s) c.if-not-is_entry.ensures.test (omega (arith, c.length-length.ensures)) (omega (arith, c.length-length.ensures));
       entries =
           ap (λ (k : ℕ). entries_on k after) more
           ∙ ap (entries_on (n + 1)) put

@@ -7,5 +7,5 @@ pub returns : goal.returns
 returns c =
     let l = c.args.self.now in
     let long = length_entries (leaves_used l.used l.bytes.now) l.bytes.now in
-    let is = c.whole-leaves.ensures in
+    let is = c.whole_leaves.ensures in
     record { value = is; holds = omega arith; small = omega arith }

@@ -1,9 +1,9 @@
 use Rattle.leaves.proofs.Opened.{kept_leaves, kept_opened}
 use Rattle.leaves.proofs.closed_book.ClosedBook.open.Goals as goal
 
-pub invariant-of-result : goal.invariant-of-result
-invariant-of-result c =
-    (λ k l. (kept_leaves _ _ c.checked.ensures k l).0, (λ k l. (kept_leaves _ _ c.checked.ensures k l).1, tt))
+pub invariant_of-result : goal.invariant_of-result
+invariant_of-result c =
+    record { entries = λ k l. (kept_leaves _ _ c.checked.ensures k l).0; leaves = λ k l. (kept_leaves _ _ c.checked.ensures k l).1 }
 
 pub returns : goal.returns
 returns c = kept_opened _ _ c.checked.ensures

@@ -9,8 +9,8 @@ returns-then-k-length c =
     let n = leaves_used p.used p.bytes.now in
     let within : c.args.k < n = omega (arith, c.length.ensures.value) in
     record {
-      entry = on_leaf n c.args.k p.bytes.now _ within c.leaf-slice.ensures.value;
-      whole = c.leaf-slice.ensures.whole;
+      entry = on_leaf n c.args.k p.bytes.now _ within c.leaf_slice.ensures.value;
+      whole = c.leaf_slice.ensures.whole;
     }
 
 pub returns-else-k-length : goal.returns-else-k-length

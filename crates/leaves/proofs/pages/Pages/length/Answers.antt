@@ -6,5 +6,5 @@ use Rattle.leaves.proofs.pages.Pages.length.Goals as goal
 pub returns : goal.returns
 returns c =
     let p = c.args.self in
-    let is = c.min.ensures ∙ ap (λ (n : ℕ). min p.used n) c.whole-leaves.ensures in
+    let is = c.min.ensures ∙ ap (λ (n : ℕ). min p.used n) c.whole_leaves.ensures in
     record { value = is; entries = is ∙ sym (length_entries (leaves_used p.used p.bytes.now) p.bytes.now) }

@@ -5,7 +5,7 @@ use Rattle.posting.proofs.sheet.Draft.entry_for.Goals as goal
 
 pub returns : goal.returns
 returns c =
-    let same = c.record-for.ensures in
+    let same = c.record_for.ensures in
     record {
       value = same;
       says = ap posted same;

@@ -4,9 +4,9 @@ use Rattle.posting.proofs.Checked.{kept_good}
 use Rattle.posting.proofs.Moving.{always_moves}
 use Rattle.posting.proofs.standing_orders.StandingOrders.new.Goals as goal
 
-pub invariant-of-result : goal.invariant-of-result
-invariant-of-result c =
-    let good = kept_good c.args.orders.now c.kept.result.now c.kept.ensures in (good.0, (good.1, tt))
+pub invariant_of-result : goal.invariant_of-result
+invariant_of-result c =
+    let good = kept_good c.args.orders.now c.kept.result.now c.kept.ensures in record { few = good.0; good = good.1 }
 
 pub returns : goal.returns
 returns c =

@@ -20,7 +20,7 @@ pub returns : goal.returns
 returns c =
     let os = c.args.self.now.orders.now in
     let value =
-    answered os c.args.house c.args.number c.args.line c.args.hand _ _ c.line-order.result
-    (to_z-of_z w64 c.args.hand c.ranges.hand) c.if-not-is-asked.ensures c.order_at_lem.ensures.value c.line-order.ensures in
+    answered os c.args.house c.args.number c.args.line c.args.hand _ _ c.line_order.result
+    (to_z-of_z w64 c.args.hand c.ranges.hand) c.if-not-is_asked.ensures c.order_at.ensures.value c.line_order.ensures in
     let limits = standing_limits os c.args.self.now.few c.args.self.now.good in
     record { value = value; kept = subst OrderKept (sym value) (limits.orders c.args.house c.args.number c.args.line c.args.hand) }
