@@ -30,7 +30,8 @@ use Rattle.batch.specs.Reading.{said, closes, ended, batch_of_any_length, batch,
 use Rattle.batch.specs.Refusals.{refusal_at}
 use Rattle.batch.specs.Rules.{order_in, said_by, tested, judged}
 use Rattle.batch.specs.Tables.{seen_in}
-use Rattle.batch.specs.Texts.{line_of, head_line, opening_line, house_line, posting_line, order_text, run_line}
+use Rattle.batch.specs.Texts.{commas, line_of, head_line, opening_line, house_line, posting_line, order_text, run_line}
+use Rattle.batch.proofs.Said.{batch_is}
 use Rattle.batch.proofs.Accepted.{natural_bounds, mapped_some, nonzero_some, ask_ok, same_ok, tested_ok, Passed, judged_allowed}
 
 -- the fields after the mark in the line of an order
@@ -65,18 +66,28 @@ unfoldable pub written : List Item → List ℕ
 written [] = []
 written (i ∷ past) = written past ++ item_line (seen_in past) i
 
+-- commas between fields stand before each but the first
+parted_commas : (ps : List (List ℕ)) → parted ps ≡ commas ps
+unfolding commaed
+parted_commas [] = refl
+parted_commas (p ∷ []) = append-nil p
+parted_commas (p ∷ q ∷ ps) = ap (λ l. p ++ (44 ∷ l)) (parted_commas (q ∷ ps))
+
+line_of_fields : (seen : ℕ) (i : Item) → commas (item_fields seen i) ++ (10 ∷ []) ≡ item_line seen i
+line_of_fields seen (Begins h) = refl
+line_of_fields seen (Opened o) = refl
+line_of_fields seen (Kept k) = refl
+line_of_fields seen Posts = refl
+line_of_fields seen (Orders (line.Take a)) = refl
+line_of_fields seen (Orders (line.Join a)) = refl
+line_of_fields seen (Orders (line.Set v)) = refl
+line_of_fields seen (Orders (line.Raise v)) = refl
+line_of_fields seen (Orders (line.Need v)) = refl
+line_of_fields seen (Orders (line.Write a)) = refl
+line_of_fields seen (Runs r) = refl
+
 pub same_line : (seen : ℕ) (i : Item) → parted (item_fields seen i) ++ (10 ∷ []) ≡ item_line seen i
-same_line seen (Begins h) = refl
-same_line seen (Opened o) = refl
-same_line seen (Kept k) = refl
-same_line seen Posts = refl
-same_line seen (Orders (line.Take a)) = refl
-same_line seen (Orders (line.Join a)) = refl
-same_line seen (Orders (line.Set v)) = refl
-same_line seen (Orders (line.Raise v)) = refl
-same_line seen (Orders (line.Need v)) = refl
-same_line seen (Orders (line.Write a)) = refl
-same_line seen (Runs r) = refl
+same_line seen i = ap (λ l. l ++ (10 ∷ [])) (parted_commas (item_fields seen i)) ∙ line_of_fields seen i
 
 -- a number's field is its text
 
@@ -332,7 +343,7 @@ accepted t text past e = go (eqb (length text) 0) e
     go false k = ended_back text (said t [] (lines text)) past k
 
 pub any_length : (t : Sizes) (text : List ℕ) (past : List Item) → batch t text ≡ Ok past → batch_of_any_length t text ≡ Ok past
-any_length t text past e = go (ltb 32768 (length text)) e
+any_length t text past e = go (ltb 32768 (length text)) (sym (batch_is t text) ∙ e)
   where
     go : (b : Bool) → cond b (Err Size) (batch_of_any_length t text) ≡ Ok past → batch_of_any_length t text ≡ Ok past
     go true k = absurd (let z : ◌≡◌ {A = ℕ} 0 1 = cc in omega arith)

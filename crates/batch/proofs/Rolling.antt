@@ -1,5 +1,5 @@
 -- The tables after each line.
-use Rattle.std.proofs.Common.{◌≡◌, ℕ, ◌+◌, ◌<◌, ◌≤◌, Bool, true, false, cond, eqb, ltb, List, [], ◌∷◌, ◌++◌, length, drop, Ok, Err, Result, sym, refl, ap, ◌∙◌, subst, arith, ltb-true}
+use Rattle.std.proofs.Common.{◌≡◌, ℕ, ◌+◌, ◌<◌, ◌≤◌, Bool, true, false, cond, ◌||◌, eqb, ltb, List, [], ◌∷◌, ◌++◌, length, drop, Ok, Err, Result, sym, refl, ap, ◌∙◌, subst, arith, ltb-true}
 use Rattle.std.proofs.lemmas.List.{append_assoc, append-nil, length-append, drop-drop}
 use Rattle.roll.specs.declared.Roll.{Roll}
 use Rattle.roll.specs.Rolls.{items, unused, cells_of, capacity_of}
@@ -102,13 +102,12 @@ ended_ok text (Ok past) h = (past, refl, go (closes text past) h)
     go false k = absurd (let z : ◌≡◌ {A = ℕ} 0 1 = cc in omega arith)
 
 pub batch_ok : (t : Sizes) (text : List ℕ) → answered (batch t text) ≡ Ok tt → (past : List Item) × (said t [] (lines text) ≡ Ok past) × (batch t text ≡ Ok past)
-batch_ok t text h = go (ltb 32768 (length text)) (eqb (length text) 0) h
+batch_ok t text h = go (eqb (length text) 0 || ltb 32768 (length text)) h
   where
-    go : (a b : Bool) → answered (cond a (Err Size) (cond b (Err Size) (ended text (said t [] (lines text))))) ≡ Ok tt
-        → (past : List Item) × (said t [] (lines text) ≡ Ok past) × (cond a (Err Size) (cond b (Err Size) (ended text (said t [] (lines text)))) ≡ Ok past)
-    go true b k = absurd (let z : ◌≡◌ {A = ℕ} 0 1 = cc in omega arith)
-    go false true k = absurd (let z : ◌≡◌ {A = ℕ} 0 1 = cc in omega arith)
-    go false false k = ended_ok text (said t [] (lines text)) k
+    go : (b : Bool) → answered (cond b (Err Size) (ended text (said t [] (lines text)))) ≡ Ok tt
+        → (past : List Item) × (said t [] (lines text) ≡ Ok past) × (cond b (Err Size) (ended text (said t [] (lines text))) ≡ Ok past)
+    go true k = absurd (let z : ◌≡◌ {A = ℕ} 0 1 = cc in omega arith)
+    go false k = ended_ok text (said t [] (lines text)) k
 
 -- all lines of an accepted batch were said
 pub said_all : (t : Sizes) (text rest : List ℕ) (past : List Item) → answered (batch t text) ≡ Ok tt → said t past (lines rest) ≡ said t [] (lines text) → length rest ≡ 0 → batch t text ≡ Ok past

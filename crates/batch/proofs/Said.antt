@@ -1,5 +1,5 @@
 -- A text line by line.
-use Rattle.std.proofs.Common.{◌≡◌, ℕ, ◌+◌, ◌-◌, ◌<◌, ◌≤◌, Bool, true, false, cond, ◌&&◌, eqb, List, [], ◌∷◌, ◌++◌, length, get_or, Ok, Err, Result, sym, refl, ap, ◌∙◌, arith, le-ltb, lt-ltb, eq-eqb, ne_eqb}
+use Rattle.std.proofs.Common.{◌≡◌, ℕ, ◌+◌, ◌-◌, ◌<◌, ◌≤◌, Bool, true, false, cond, ◌&&◌, ◌||◌, eqb, ltb, List, [], ◌∷◌, ◌++◌, length, get_or, Ok, Err, Result, sym, refl, ap, ◌∙◌, arith, le-ltb, lt-ltb, eq-eqb, ne_eqb}
 use Rattle.std.proofs.lemmas.List.{length-append, append-nil, nil_from_length}
 use Rattle.std.proofs.lemmas.Bool.{and_from, and_left, and_right}
 use Rattle.batch.specs.declared.records.Posting.{Posting}
@@ -78,19 +78,30 @@ all_said t past rest e = ap (λ r. said t past (lines r)) (nil_from_length rest 
 
 -- the whole text
 
+-- its length apart, a batch is read as a text of any length
+pub batch_is : (t : Sizes) (text : List ℕ) → batch t text ≡ cond (ltb 32768 (length text)) (Err Size) (batch_of_any_length t text)
+batch_is t text = go (eqb (length text) 0) (ltb 32768 (length text)) (ended text (said t [] (lines text)))
+  where
+    go : (a b : Bool) (r : Result (List Item) BatchRefusal) → cond (a || b) (Err Size) r ≡ cond b (Err Size) (cond a (Err Size) r)
+    go true true r = refl
+    go true false r = refl
+    go false true r = refl
+    go false false r = refl
+
 pub batch_empty : (t : Sizes) (text : List ℕ) → length text ≡ 0 → batch t text ≡ Err Size
 batch_empty t text e =
-    ap (λ (b : Bool). cond b (Err Size) (batch_of_any_length t text)) (le-ltb 32768 (length text) (omega arith))
+    batch_is t text
+    ∙ ap (λ (b : Bool). cond b (Err Size) (batch_of_any_length t text)) (le-ltb 32768 (length text) (omega arith))
     ∙ ap (λ (b : Bool). cond b (Err Size) (ended text (said t [] (lines text)))) (eq-eqb (length text) 0 e)
 
 pub batch_long : (t : Sizes) (text : List ℕ) → 32768 < length text → batch t text ≡ Err Size
-batch_long t text h = ap (λ (b : Bool). cond b (Err Size) (batch_of_any_length t text)) (lt-ltb 32768 (length text) h)
+batch_long t text h = batch_is t text ∙ ap (λ (b : Bool). cond b (Err Size) (batch_of_any_length t text)) (lt-ltb 32768 (length text) h)
 
 pub any_lines : (t : Sizes) (text : List ℕ) → 0 < length text → batch_of_any_length t text ≡ ended text (said t [] (lines text))
 any_lines t text l = ap (λ (b : Bool). cond b (Err Size) (ended text (said t [] (lines text)))) (ne_eqb (length text) 0 (λ z. omega arith))
 
 pub batch_lines : (t : Sizes) (text : List ℕ) → 0 < length text → length text ≤ 32768 → batch t text ≡ ended text (said t [] (lines text))
-batch_lines t text l h = ap (λ (b : Bool). cond b (Err Size) (batch_of_any_length t text)) (le-ltb 32768 (length text) h) ∙ any_lines t text l
+batch_lines t text l h = batch_is t text ∙ ap (λ (b : Bool). cond b (Err Size) (batch_of_any_length t text)) (le-ltb 32768 (length text) h) ∙ any_lines t text l
 
 pub batch_refused : (t : Sizes) (k : Progress) (past : List Item) (text rest : List ℕ) (f : Fault) → 0 < length text → length text ≤ 32768
     → said t past (lines rest) ≡ said t [] (lines text) → k ≡ sofar past → 0 < length rest → judged t k (fields (first_line rest)) ≡ Err f

@@ -1,5 +1,5 @@
 -- What a whole text says.
-use Rattle.std.specs.Prelude.{ℕ, ◌+◌, ◌-◌, Bool, cond, ◌&&◌, List, [], ◌∷◌, length, Ok, Err, Result, ◌==◌, nat_lt, slice_index}
+use Rattle.std.specs.Prelude.{ℕ, ◌+◌, ◌-◌, Bool, cond, ◌&&◌, ◌||◌, List, [], ◌∷◌, length, Ok, Err, Result, ◌==◌, nat_lt, slice_index}
 use Rattle.batch.specs.declared.items.Item.{Item}
 use Rattle.batch.specs.declared.items.BatchRefusal.{BatchRefusal}
 use Rattle.batch.specs.declared.items.BatchRefusal.TheVariants.{Size, End}
@@ -28,9 +28,9 @@ ended text (Ok past) = cond (closes text past) (Ok past) (Err (End (length past)
 abbrev pub batch_of_any_length : Sizes → List ℕ → Result (List Item) BatchRefusal
 batch_of_any_length t text = cond (length text == 0) (Err Size) (ended text (said t [] (lines text)))
 
--- a batch has at most 32,768 bytes
+-- what each line of a batch says, the latest first, or the refusal: a batch has at most 32,768 bytes
 abbrev pub batch : Sizes → List ℕ → Result (List Item) BatchRefusal
-batch t text = cond (nat_lt 32768 (length text)) (Err Size) (batch_of_any_length t text)
+batch t text = cond (length text == 0 || nat_lt 32768 (length text)) (Err Size) (ended text (said t [] (lines text)))
 
 -- each line may stand where it comes, keeps its limits and has room
 abbrev pub Lawful : Sizes → List Item → Type 0

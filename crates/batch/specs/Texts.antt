@@ -1,7 +1,6 @@
 -- The text of a plan and its tables: what a batch that fills them looks like.
 use Rattle.std.specs.Prelude.{◌≡◌, ℕ, zero, suc, ◌+◌, ◌-◌, cond, List, [], ◌∷◌, ◌++◌, length, ℤ, pos, negsuc, Ok, decimal, ◌==◌, slice_index, slice_range}
 use Rattle.std.specs.Fmt.{signed_decimal}
-use Rattle.journal.specs.Lines.{parted}
 use Rattle.batch.specs.declared.records.Posting.{Posting}
 use Rattle.batch.specs.declared.records.OrderLine.{OrderLine}
 use Rattle.batch.specs.declared.records.OrderLine.TheVariants.{Take, Join, Set, Raise, Need, Write}
@@ -13,9 +12,15 @@ use Rattle.batch.specs.Progress.{houses_in}
 use Rattle.batch.specs.Reading.{batch_of_any_length, batch, Lawful}
 use Rattle.batch.specs.Tables.{seen_in, postings_in, orders_in, runs_in}
 
+-- fields parted by commas
+abbrev pub commas : List (List ℕ) → List ℕ
+commas [] = []
+commas (p ∷ []) = p
+commas (p ∷ q ∷ ps) = p ++ (44 ∷ commas (q ∷ ps))
+
 -- a line of a mark and fields
 abbrev pub line_of : ℕ → List (List ℕ) → List ℕ
-line_of mark fs = parted ((mark ∷ []) ∷ fs) ++ (10 ∷ [])
+line_of mark fs = commas ((mark ∷ []) ∷ fs) ++ (10 ∷ [])
 
 -- B,houses,workers,patience
 abbrev pub head_line : ℕ → ℕ → ℕ → List ℕ

@@ -15,9 +15,9 @@ pub loop-account-preserved : goal.loop-account-preserved
 loop-account-preserved c =
     let es = book_entries c.args.book.now in
     let a = c.loop-account.account in
-    let given = c.last-given-given.ensures.value ∙ ap (last_given es a) c.length-length.ensures in
+    let given = c.last_given-given.ensures.value ∙ ap (last_given es a) c.length-length.ensures in
     in_turn_more (λ a. account_line a (last_given es a (length es))) (vec_items c.args.text.now) _ _ a c.loop-account.invariant
-    (c.in-ok-push-account-line.ensures ∙ ap (λ (o : Option Given). vec_items c.loop-account.text ++ account_line a o) given)
+    (c.in_ok-push_account_line.ensures ∙ ap (λ (o : Option Given). vec_items c.loop-account.text ++ account_line a o) given)
 
 pub returns : goal.returns
 returns c =

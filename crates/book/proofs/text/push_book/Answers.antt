@@ -5,5 +5,5 @@ use Rattle.book.proofs.text.push_book.Goals as goal
 
 pub returns : goal.returns
 returns c =
-    three_texts (vec_items c.args.text.now) _ _ _ _ _ _ c.in-ok-push-entry-lines.ensures c.in-ok-push-account-lines.ensures
-    (c.in-ok-push-length-line.ensures ∙ ap (λ (n : ℕ). vec_items c.push-account-lines.new.text ++ length_line n) c.length.ensures)
+    three_texts (vec_items c.args.text.now) _ _ _ _ _ _ c.in_ok-push_entry_lines.ensures c.in_ok-push_account_lines.ensures
+    (c.in_ok-push_length_line.ensures ∙ ap (λ (n : ℕ). vec_items c.push_account_lines.new.text ++ length_line n) c.length.ensures)

@@ -11,7 +11,7 @@ loop-k-init c = in_turn_none (λ k. line_of k (slice_get (book_entries c.args.bo
 pub loop-k-preserved : goal.loop-k-preserved
 loop-k-preserved c =
     let es = book_entries c.args.book.now in
-    in_turn_more (λ k. line_of k (slice_get es k)) (vec_items c.args.text.now) _ _ c.loop-k.k c.loop-k.invariant c.in-ok-push-entry-line.ensures
+    in_turn_more (λ k. line_of k (slice_get es k)) (vec_items c.args.text.now) _ _ c.loop-k.k c.loop-k.invariant c.in_ok-push_entry_line.ensures
 
 pub returns : goal.returns
 returns c =

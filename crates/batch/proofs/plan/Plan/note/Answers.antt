@@ -9,7 +9,13 @@ use Rattle.batch.proofs.plan.Plan.note.Goals as goal
 pub invariant_of-self : goal.invariant_of-self
 invariant_of-self c =
     let w : Within c.args.known.now (Begins c.in-Begins.head) = subst (Within c.args.known.now) c.in-Begins.is c.requires.within in
-    (w.0, (w.1, (w.2, ((λ k. omega (arith, all_same {X = ℕ} 16 k 0, w.1.0)), ((λ k. omega (arith, ap nat_abs (all_same 64 k (pos 0)))), tt)))))
+    record {
+      house = w.0;
+      worker = w.1;
+      patient = w.2;
+      kept = λ k. omega (arith, all_same {X = ℕ} 16 k 0, w.1.0);
+      ranged = λ k. omega (arith, ap nat_abs (all_same 64 k (pos 0)));
+    }
 
 pub invariant_of-self-in-Opened : goal.invariant_of-self-in-Opened
 invariant_of-self-in-Opened c =
@@ -17,11 +23,23 @@ invariant_of-self-in-Opened c =
     let o = c.in-Opened.opens in
     let w : Within c.args.known.now (Opened o) = subst (Within c.args.known.now) c.in-Opened.is c.requires.within in
     let f : SFits w64 o.cents = search rules in
-    (p.house, (p.worker, (p.patient, (p.kept, (set_all InRange p.openings o.account _ (pos 0) p.ranged (subst InRange (sym (to_z-of_z w64 o.cents f)) w.2), tt)))))
+    record {
+      house = p.house;
+      worker = p.worker;
+      patient = p.patient;
+      kept = p.kept;
+      ranged = set_all InRange p.openings o.account _ (pos 0) p.ranged (subst InRange (sym (to_z-of_z w64 o.cents f)) w.2);
+    }
 
 pub invariant_of-self-in-Kept : goal.invariant_of-self-in-Kept
 invariant_of-self-in-Kept c =
     let p = c.args.self.now in
     let w : Within c.args.known.now (Kept c.in-Kept.keeper) = subst (Within c.args.known.now) c.in-Kept.is c.requires.within in
     let k : c.in-Kept.keeper < p.workers = omega (arith, w.1, c.requires.workers, p.worker.0) in
-    (p.house, (p.worker, (p.patient, (set_all (λ x. x < p.workers) p.keepers c.args.known.now.seen c.in-Kept.keeper 0 p.kept k, (p.ranged, tt)))))
+    record {
+      house = p.house;
+      worker = p.worker;
+      patient = p.patient;
+      kept = set_all (λ x. x < p.workers) p.keepers c.args.known.now.seen c.in-Kept.keeper 0 p.kept k;
+      ranged = p.ranged;
+    }

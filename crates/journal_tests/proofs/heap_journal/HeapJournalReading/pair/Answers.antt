@@ -9,5 +9,5 @@ pub returns-in-Some : goal.returns-in-Some
 returns-in-Some c =
     c.copied.ensures
     ∙ item_nth _ c.args.j c.get.result c.get.ensures.lookup
-    ∙ ap (λ (ps : List Pair). slice_get ps c.args.j) c.counted-pairs.ensures.value
+    ∙ ap (λ (ps : List Pair). slice_get ps c.args.j) c.counted_pairs.ensures.value
     ∙ ap (pair_of c.args.j) c.in-Some.ensures
