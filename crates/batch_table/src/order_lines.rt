@@ -15,7 +15,9 @@ fn line_in_range(line: OrderLine) -> bool
         OrderLine::Take(account) | OrderLine::Join(account) | OrderLine::Write(account) => {
             account <= LAST_ACCOUNT
         }
-        OrderLine::Set(cents) | OrderLine::Raise(cents) | OrderLine::Need(cents) => in_range(cents),
+        OrderLine::Set(cents) => in_range(cents),
+        OrderLine::Raise(cents) => in_range(cents),
+        OrderLine::Need(cents) => in_range(cents),
     }
 }
 

@@ -13,4 +13,4 @@ pub returns-in-Err : goal.returns-in-Err
 returns-in-Err c =
     let b = batch tables c.args.bytes.now in
     let told : Err c.in-Err.refusal ≡ answered b = search rules in
-    subst (λ l. IfOk c.refused-text.result (λ text. string_bytes text ≡ l)) (refused b c.in-Err.refusal told) c.refused-text.ensures
+    subst (λ l. IfOk c.refused_text.result (λ text. string_bytes text ≡ l)) (refused b c.in-Err.refusal told) c.refused_text.ensures

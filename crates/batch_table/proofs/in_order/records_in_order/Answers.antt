@@ -22,5 +22,5 @@ loop-posting-preserved c =
 
 pub returns : goal.returns
 returns c =
-    c.may-end.ensures ∙ order_all c.args.houses c.args.end c.loop-posting.reached c.args.postings.now c.loop-posting.posting-index c.loop-posting-test.false
+    c.may_end.ensures ∙ order_all c.args.houses c.args.end c.loop-posting.reached c.args.postings.now c.loop-posting.posting-index c.loop-posting-test.false
     ∙ c.loop-posting.invariant.1

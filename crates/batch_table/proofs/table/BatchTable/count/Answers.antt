@@ -9,15 +9,15 @@ returns-then-house-self c =
     let s = c.args.self.now in
     record { value = sym (ap length (none_of s.houses c.args.house s.postings.now s.lines.now s.good c.if-house-self.true)); few = omega arith }
 
-between : (c : goal.After-result-2·1) → get_or c.args.self.now.starts (c.args.house + 1) 0
+between : (c : goal.After-result-2-1) → get_or c.args.self.now.starts (c.args.house + 1) 0
     ≡ get_or c.args.self.now.starts c.args.house 0 + length (postings_of c.args.house c.args.self.now.postings.now c.args.self.now.lines.now)
 between c =
     let s = c.args.self.now in
     let lower : c.args.house ≤ 15 = omega (arith, c.if-house-self.false, s.few) in
     count_between c.args.house s.postings.now s.lines.now _ _ (s.begun c.args.house (omega arith)) (s.begun (c.args.house + 1) (omega arith))
 
-pub overflow-sub-result : goal.overflow-sub-result
-overflow-sub-result c = omega (arith, between c)
+pub overflow_sub-result : goal.overflow_sub-result
+overflow_sub-result c = omega (arith, between c)
 
 pub returns : goal.returns
 returns c =

@@ -14,8 +14,8 @@ place : (t : BatchTable) (house number : ℕ) → house < t.houses → 1 ≤ num
 place t house number h some few =
     found_at t.houses house number (get_or t.starts house 0) _ t.postings.now t.lines.now t.good (t.begun house (omega (arith, t.few))) some few refl
 
-pub overflow-add-place : goal.overflow-add-place
-overflow-add-place c =
+pub overflow_add-place : goal.overflow_add-place
+overflow_add-place c =
     let at = place c.args.self.now c.args.house c.args.number c.requires.house c.requires.some c.requires.few in
     let small : length c.args.self.now.postings.now < 2 ^ 64 = search rules in
     omega (arith, at.within)
@@ -23,30 +23,30 @@ overflow-add-place c =
 pub bounds-self-place : goal.bounds-self-place
 bounds-self-place c = (place c.args.self.now c.args.house c.args.number c.requires.house c.requires.some c.requires.few).within
 
-pub offset-bounds-self-place : goal.offset-bounds-self-place
-offset-bounds-self-place c =
+pub offset_bounds-self-place : goal.offset_bounds-self-place
+offset_bounds-self-place c =
     let at = place c.args.self.now c.args.house c.args.number c.requires.house c.requires.some c.requires.few in
     let small : length c.args.self.now.postings.now * 16 < 2 ^ 64 = search rules in
     omega (arith, at.within)
 
-pub end-of-end-requires : goal.end-of-end-requires
-end-of-end-requires c = (place c.args.self.now c.args.house c.args.number c.requires.house c.requires.some c.requires.few).within
+pub end_of-end-requires : goal.end_of-end-requires
+end_of-end-requires c = (place c.args.self.now c.args.house c.args.number c.requires.house c.requires.some c.requires.few).within
 
-pub overflow-sub-end : goal.overflow-sub-end
-overflow-sub-end c =
+pub overflow_sub-end : goal.overflow_sub-end
+overflow_sub-end c =
     let at = place c.args.self.now c.args.house c.args.number c.requires.house c.requires.some c.requires.few in
-    omega (arith, at.from, c.end-of-end.ensures)
+    omega (arith, at.from, c.end_of-end.ensures)
 
-pub offset-bounds-self-first : goal.offset-bounds-self-first
-offset-bounds-self-first c =
+pub offset_bounds-self-first : goal.offset_bounds-self-first
+offset_bounds-self-first c =
     let at = place c.args.self.now c.args.house c.args.number c.requires.house c.requires.some c.requires.few in
     let small : length c.args.self.now.lines.now * 16 < 2 ^ 64 = search rules in
-    omega (arith, at.from, at.to, c.end-of-end.ensures, c.if-line-end.true)
+    omega (arith, at.from, at.to, c.end_of-end.ensures, c.if-line-end.true)
 
 pub bounds-self-first : goal.bounds-self-first
 bounds-self-first c =
     let at = place c.args.self.now c.args.house c.args.number c.requires.house c.requires.some c.requires.few in
-    omega (arith, at.from, at.to, c.end-of-end.ensures, c.if-line-end.true)
+    omega (arith, at.from, at.to, c.end_of-end.ensures, c.if-line-end.true)
 
 pub returns-then-line-end : goal.returns-then-line-end
 returns-then-line-end c =
@@ -54,7 +54,7 @@ returns-then-line-end c =
     let n = get_or t.starts c.args.house 0 + (c.args.number - 1) in
     let at = place t c.args.house c.args.number c.requires.house c.requires.some c.requires.few in
     line_between (posting_at t.postings.now n).first (first_of (drop (n + 1) t.postings.now) (length t.lines.now)) c.args.line t.lines.now (Take 0)
-    at.from at.to (omega (arith, c.end-of-end.ensures, c.if-line-end.true)) ∙ ap (λ l. slice_get l c.args.line) (sym at.lines)
+    at.from at.to (omega (arith, c.end_of-end.ensures, c.if-line-end.true)) ∙ ap (λ l. slice_get l c.args.line) (sym at.lines)
 
 pub returns-else-line-end : goal.returns-else-line-end
 returns-else-line-end c =
@@ -62,4 +62,4 @@ returns-else-line-end c =
     let n = get_or t.starts c.args.house 0 + (c.args.number - 1) in
     let at = place t c.args.house c.args.number c.requires.house c.requires.some c.requires.few in
     none_between (posting_at t.postings.now n).first (first_of (drop (n + 1) t.postings.now) (length t.lines.now)) c.args.line t.lines.now
-    (omega (arith, c.end-of-end.ensures, c.if-line-end.false)) ∙ ap (λ l. slice_get l c.args.line) (sym at.lines)
+    (omega (arith, c.end_of-end.ensures, c.if-line-end.false)) ∙ ap (λ l. slice_get l c.args.line) (sym at.lines)
