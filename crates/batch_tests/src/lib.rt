@@ -2,6 +2,8 @@
 #![tactic(auto)]
 
 #[cfg(test)]
+mod more_texts;
+#[cfg(test)]
 mod table;
 #[cfg(test)]
 mod texts;
