@@ -1,5 +1,5 @@
 -- An accepted line keeps its limits.
-use Rattle.std.proofs.Common.{◌≡◌, ℕ, zero, suc, ◌+◌, ◌-◌, ◌<◌, ◌≤◌, min, Bool, true, false, cond, ◌&&◌, eqb, leb, List, [], ◌∷◌, length, get_or, ℤ, pos, negsuc, neg_ℤ, nat_abs, Some, None, Ok, Err, decimal, Option, Result, sym, refl, ap, ◌∙◌, subst, arith, ltb-true, eq-eqb, ne_eqb, eqb-true, leb-true}
+use Rattle.std.proofs.Common.{◌≡◌, ℕ, zero, suc, ◌-◌, ◌≤◌, min, Bool, true, false, cond, ◌&&◌, eqb, leb, List, [], ◌∷◌, length, get_or, ℤ, pos, negsuc, neg_ℤ, nat_abs, Some, None, Ok, Err, decimal, Option, Result, sym, refl, ap, ◌∙◌, subst, arith, ltb-true, eq-eqb, ne_eqb, eqb-true, leb-true}
 use borrow.Author.Tests.{eqb-false}
 use Rattle.std.specs.Option.{option_map}
 use Rattle.std.specs.Str.Parse.{digits_value}
@@ -13,9 +13,8 @@ use Rattle.batch.specs.declared.items.Kind.TheVariants.{Take, Join, Set, Raise, 
 use Rattle.batch.specs.declared.items.Mark.{Mark}
 use Rattle.batch.specs.declared.items.Mark.TheVariants.{Begin, Opening, House, Posting, Order, Run}
 use Rattle.batch.specs.declared.items.Item.{Item}
-use Rattle.batch.specs.declared.items.Item.TheVariants.{Begins, Opened, Kept, Posts, Orders, Runs}
 use Rattle.batch.specs.declared.items.Fault.{Fault}
-use Rattle.batch.specs.declared.items.Fault.TheVariants.{Form, Place, Field, Room}
+use Rattle.batch.specs.declared.items.Fault.TheVariants.{Form, Place, Room}
 use Rattle.batch.specs.declared.progress.Progress.{Progress}
 use Rattle.batch.specs.declared.progress.Sizes.{Sizes}
 use Rattle.batch.specs.Fields.{natural, cents, nonzero}

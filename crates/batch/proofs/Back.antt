@@ -1,5 +1,5 @@
 -- What is read is what is written, line by line.
-use Rattle.std.proofs.Common.{◌≡◌, ℕ, zero, suc, ◌+◌, ◌-◌, ◌<◌, ◌≤◌, min, Bool, true, false, cond, ◌&&◌, eqb, ltb, leb, List, [], ◌∷◌, ◌++◌, length, get_or, ℤ, pos, negsuc, neg_ℤ, Some, None, Ok, Err, decimal, Option, Result, sym, refl, ap, ◌∙◌, subst, arith, eq-eqb, eqb-true, leb-true}
+use Rattle.std.proofs.Common.{◌≡◌, ℕ, zero, suc, ◌+◌, ◌-◌, ◌<◌, ◌≤◌, min, Bool, true, false, cond, ◌&&◌, eqb, ltb, leb, List, [], ◌∷◌, ◌++◌, length, get_or, ℤ, pos, neg_ℤ, Some, None, Ok, Err, decimal, Option, Result, sym, refl, ap, ◌∙◌, subst, arith, eq-eqb, eqb-true}
 use native.Mathlib.Numerals.{unary_clauses}
 use Rattle.std.specs.Option.{option_map}
 use Rattle.std.specs.Str.Parse.{digits_value}
@@ -28,11 +28,11 @@ use Rattle.batch.specs.Parts.{onto, fields, lines}
 use Rattle.batch.specs.Progress.{sofar}
 use Rattle.batch.specs.Reading.{said, closes, ended, batch_of_any_length, batch, Lawful}
 use Rattle.batch.specs.Refusals.{refusal_at}
-use Rattle.batch.specs.Rules.{order_in, said_by, tested, judged}
+use Rattle.batch.specs.Rules.{order_in, said_by, judged}
 use Rattle.batch.specs.Tables.{seen_in}
-use Rattle.batch.specs.Texts.{commas, line_of, head_line, opening_line, house_line, posting_line, order_text, run_line}
+use Rattle.batch.specs.Texts.{commas, head_line, opening_line, house_line, posting_line, order_text, run_line}
 use Rattle.batch.proofs.Said.{batch_is}
-use Rattle.batch.proofs.Accepted.{natural_bounds, mapped_some, nonzero_some, ask_ok, same_ok, tested_ok, Passed, judged_allowed}
+use Rattle.batch.proofs.Accepted.{natural_bounds, mapped_some, nonzero_some, ask_ok, same_ok, tested_ok, judged_allowed}
 
 -- the fields after the mark in the line of an order
 abbrev pub order_fields : OrderLine → List (List ℕ)

@@ -1,11 +1,8 @@
 -- The tables after each line.
-use Rattle.std.proofs.Common.{◌≡◌, ℕ, ◌+◌, ◌<◌, ◌≤◌, Bool, true, false, cond, ◌||◌, eqb, ltb, List, [], ◌∷◌, ◌++◌, length, drop, Ok, Err, Result, sym, refl, ap, ◌∙◌, subst, arith, ltb-true}
+use Rattle.std.proofs.Common.{◌≡◌, ℕ, ◌+◌, ◌<◌, Bool, true, false, cond, ◌||◌, eqb, ltb, List, [], ◌∷◌, ◌++◌, length, drop, Ok, Err, Result, sym, refl, ap, ◌∙◌, subst, arith, ltb-true}
 use Rattle.std.proofs.lemmas.List.{append_assoc, append-nil, length-append, drop-drop}
 use Rattle.roll.specs.declared.Roll.{Roll}
 use Rattle.roll.specs.Rolls.{items, unused, cells_of, capacity_of}
-use Rattle.batch.specs.declared.records.Posting.{Posting}
-use Rattle.batch.specs.declared.records.OrderLine.{OrderLine}
-use Rattle.batch.specs.declared.records.Run.{Run}
 use Rattle.batch.specs.declared.items.Item.{Item}
 use Rattle.batch.specs.declared.items.Item.TheVariants.{Begins, Opened, Kept, Posts, Orders, Runs}
 use Rattle.batch.specs.declared.items.BatchRefusal.{BatchRefusal}
@@ -18,7 +15,7 @@ use Rattle.batch.specs.Plans.{planned}
 use Rattle.batch.specs.Progress.{sofar, houses_in, workers_in}
 use Rattle.batch.specs.Reading.{said, closes, ended, batch, answered}
 use Rattle.batch.specs.Rules.{room_for, judged}
-use Rattle.batch.specs.Tables.{Grown, Anew, Tabled, posting_of, order_of, run_of, postings_in, orders_in, runs_in}
+use Rattle.batch.specs.Tables.{Grown, Anew, Tabled, posting_of, order_of, run_of}
 use Rattle.batch.specs.Refusals.{refusal_at}
 use Rattle.batch.proofs.Said.{all_said, step_err}
 

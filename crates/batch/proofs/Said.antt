@@ -1,8 +1,7 @@
 -- A text line by line.
-use Rattle.std.proofs.Common.{◌≡◌, ℕ, ◌+◌, ◌-◌, ◌<◌, ◌≤◌, Bool, true, false, cond, ◌&&◌, ◌||◌, eqb, ltb, List, [], ◌∷◌, ◌++◌, length, get_or, Ok, Err, Result, sym, refl, ap, ◌∙◌, arith, le-ltb, lt-ltb, eq-eqb, ne_eqb}
+use Rattle.std.proofs.Common.{◌≡◌, ℕ, ◌+◌, ◌-◌, ◌<◌, ◌≤◌, Bool, true, false, cond, ◌||◌, eqb, ltb, List, [], ◌∷◌, ◌++◌, length, get_or, Ok, Err, Result, sym, refl, ap, ◌∙◌, arith, le-ltb, lt-ltb, eq-eqb, ne_eqb}
 use Rattle.std.proofs.lemmas.List.{length-append, append-nil, nil_from_length}
 use Rattle.std.proofs.lemmas.Bool.{and_from, and_left, and_right}
-use Rattle.batch.specs.declared.records.Posting.{Posting}
 use Rattle.batch.specs.declared.items.Item.{Item}
 use Rattle.batch.specs.declared.items.Item.TheVariants.{Begins, Opened, Kept, Posts, Orders, Runs}
 use Rattle.batch.specs.declared.items.Fault.{Fault}
@@ -11,11 +10,11 @@ use Rattle.batch.specs.declared.items.BatchRefusal.TheVariants.{Size, End}
 use Rattle.batch.specs.declared.progress.Progress.{Progress}
 use Rattle.batch.specs.declared.progress.Sizes.{Sizes}
 use Rattle.batch.specs.Parts.{lines, fields, first_line, after_line}
-use Rattle.batch.specs.Progress.{sofar, entered, stage_after, houses_in, workers_in, account_after, here_after, lines_after}
-use Rattle.batch.specs.Reading.{said, closes, ended, batch_of_any_length, batch, answered}
+use Rattle.batch.specs.Progress.{sofar, entered}
+use Rattle.batch.specs.Reading.{said, closes, ended, batch_of_any_length, batch}
 use Rattle.batch.specs.Refusals.{refusal_at}
 use Rattle.batch.specs.Rules.{judged}
-use Rattle.batch.specs.Tables.{seen_in, postings_in, orders_in, runs_in, posting_of, order_of, run_of}
+use Rattle.batch.specs.Tables.{seen_in, postings_in, orders_in, runs_in, posting_of}
 use Rattle.batch.proofs.Cuts.{lines_more}
 
 -- the lengths of the tables after one more line

@@ -1,5 +1,5 @@
 -- An accepted text is the text of its plan and its tables.
-use Rattle.std.proofs.Common.{◌≡◌, ℕ, zero, suc, ◌+◌, ◌-◌, ◌<◌, ◌≤◌, Bool, true, false, cond, eqb, ◌≢◌, List, [], ◌∷◌, ◌++◌, length, get_or, set, replicate, ℤ, pos, Some, Ok, Err, Result, sym, refl, ap, ◌∙◌, subst, add-one, arith, eqb-true}
+use Rattle.std.proofs.Common.{◌≡◌, ℕ, suc, ◌+◌, ◌-◌, ◌<◌, ◌≤◌, true, eqb, ◌≢◌, List, [], ◌∷◌, ◌++◌, length, get_or, set, replicate, pos, Some, Ok, Err, Result, sym, refl, ap, ◌∙◌, subst, add-one, arith, eqb-true}
 use Rattle.std.proofs.lemmas.List.{append_assoc, append-nil, length-set, length-append, get_or-set_other}
 use Rattle.batch.specs.declared.records.Posting.{Posting}
 use Rattle.batch.specs.declared.records.OrderLine.{OrderLine}
@@ -31,7 +31,7 @@ use Rattle.batch.specs.Progress.{sofar, stage_after, houses_in, account_after}
 use Rattle.batch.specs.Tables.{seen_in, postings_in, orders_in, runs_in, Tabled}
 use Rattle.batch.specs.Texts.{head_line, opening_line, opening_texts, house_line, house_texts, posting_line, order_text, run_line, run_texts, text_upto, batch_text, text_of, WritesBack, OneWay}
 use Rattle.batch.proofs.Accepted.{tested_ok, same_ok}
-use Rattle.batch.proofs.Back.{item_line, written, text_written, accepted, any_length, same_past}
+use Rattle.batch.proofs.Back.{written, text_written, accepted, any_length, same_past}
 use Rattle.batch.proofs.Rolling.{planned_houses, batch_ok}
 use Rattle.batch.proofs.TextParts.{runs_push, zeros_none, opening_push, Below, Firsts, postings_push, postings_order, houses_grow, houses_push}
 use Rattle.batch.proofs.Zeros.{all_same}

@@ -1,5 +1,5 @@
 -- What holds of every accepted line.
-use Rattle.std.specs.Prelude.{◌≡◌, ℕ, ◌-◌, ◌<◌, ◌≤◌, true, ℤ, pos, ◌≢◌}
+use Rattle.std.specs.Prelude.{◌≡◌, ◌-◌, ◌<◌, ◌≤◌, true, pos, ◌≢◌}
 use Rattle.journal.specs.Entries.{InRange}
 use Rattle.batch.specs.declared.records.OrderLine.{OrderLine}
 use Rattle.batch.specs.declared.records.OrderLine.TheVariants.{Take, Join, Set, Raise, Need, Write}

@@ -1,5 +1,5 @@
 -- The rules of the fields, and what a line says after the lines before it.
-use Rattle.std.specs.Prelude.{ℕ, ◌-◌, min, Bool, true, false, cond, List, [], ◌∷◌, length, ℤ, Some, None, Ok, Err, Option, Result, ◌==◌, nat_lt, slice_index_or}
+use Rattle.std.specs.Prelude.{ℕ, ◌-◌, min, Bool, true, cond, List, [], length, Some, None, Ok, Err, Option, Result, ◌==◌, nat_lt, slice_index_or}
 use Rattle.std.specs.Option.{option_map}
 use Rattle.batch.specs.declared.records.OrderLine.{OrderLine}
 use Rattle.batch.specs.declared.records.OrderLine.TheVariants as line

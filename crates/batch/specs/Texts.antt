@@ -1,5 +1,5 @@
 -- The text of a plan and its tables: what a batch that fills them looks like.
-use Rattle.std.specs.Prelude.{◌≡◌, ℕ, zero, suc, ◌+◌, ◌-◌, cond, List, [], ◌∷◌, ◌++◌, length, ℤ, pos, negsuc, Ok, decimal, ◌==◌, slice_index, slice_range}
+use Rattle.std.specs.Prelude.{◌≡◌, ℕ, zero, suc, ◌+◌, cond, List, [], ◌∷◌, ◌++◌, length, ℤ, pos, negsuc, Ok, decimal, ◌==◌, slice_index, slice_range}
 use Rattle.std.specs.Fmt.{signed_decimal}
 use Rattle.batch.specs.declared.records.Posting.{Posting}
 use Rattle.batch.specs.declared.records.OrderLine.{OrderLine}

@@ -1,5 +1,5 @@
 -- What filing an entry at a place answers and leaves.
-use Rattle.std.specs.Prelude.{ℕ, Bool, cond, List, [], ◌∷◌, ◌++◌, length, is_ok, Ok, Err, Result, ◌==◌, nat_lt}
+use Rattle.std.specs.Prelude.{ℕ, cond, List, [], ◌∷◌, ◌++◌, is_ok, Ok, Err, Result, ◌==◌, nat_lt}
 use Rattle.journal.specs.Entries.{Posted, posted, is_entry}
 use Rattle.journal.specs.declared.entry.Entry.{Entry}
 use Rattle.journal.specs.declared.journals.FilingRefusal.{FilingRefusal}

@@ -1,7 +1,7 @@
 -- Every entry of a closed book is lawful.
-use Rattle.std.proofs.Common.{◌≡◌, ℕ, ◌<◌, ◌≤◌, Some, None, sym, refl, ◌∙◌, subst, arith}
+use Rattle.std.proofs.Common.{◌≡◌, ℕ, ◌<◌, Some, refl, ◌∙◌, subst, arith}
 use Rattle.std.specs.List.{slice_get}
-use Rattle.journal.specs.Entries.{Posted, Lawful, lawful}
+use Rattle.journal.specs.Entries.{Posted, Lawful}
 use Rattle.leaves.specs.Leaf.{entry_on}
 use Rattle.leaves.specs.Pages.{leaf_at, leaves_used}
 use Rattle.leaves.specs.Stores.{book_entries}

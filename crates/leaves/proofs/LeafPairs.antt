@@ -1,9 +1,8 @@
 -- The pairs on a leaf, one after the other.
-use Rattle.std.proofs.Common.{◌≡◌, ℕ, zero, suc, ◌+◌, ◌-◌, ◌*◌, ◌<◌, min, cond, eqb, List, [], ◌∷◌, ◌++◌, length, get_or, take, drop, ℤ, Some, Option, sym, refl, ap, ◌∙◌, le_of_suc-le-suc, not-suc-le-zero, add-zero, arith}
+use Rattle.std.proofs.Common.{◌≡◌, ℕ, zero, suc, ◌+◌, ◌-◌, ◌*◌, ◌<◌, min, List, [], ◌∷◌, ◌++◌, length, get_or, take, drop, Some, refl, ap, ◌∙◌, le_of_suc-le-suc, not-suc-le-zero, add-zero, arith}
 use Rattle.std.specs.List.{slice_get}
 use Rattle.std.proofs.lemmas.List.{get_or-drop, drop-drop}
 use Rattle.leaves.specs.Leaf.{signed_of, pairs_on}
-use Rattle.journal.specs.Readings.{given_in}
 use Rattle.journal.specs.declared.entry.Pair.{Pair}
 
 abbrev first : List ℕ → List ℕ → Pair

@@ -1,6 +1,6 @@
 -- A closed book opened on bytes.
-use Rattle.std.proofs.Common.{◌≡◌, ℕ, ◌/◌, ◌<◌, ◌≤◌, true, ◌⊎◌, List, [], length, Ok, Err, sym, refl, ap, ◌∙◌, subst, inl, inr, arith}
-use Rattle.journal.specs.Entries.{Posted, Lawful, lawful}
+use Rattle.std.proofs.Common.{◌≡◌, ℕ, ◌/◌, ◌<◌, true, List, length, Err, sym, ap, ◌∙◌, subst, inl, inr, arith}
+use Rattle.journal.specs.Entries.{lawful}
 use Rattle.leaves.specs.Leaf.{entry_on, leaf_of, IsLeaf}
 use Rattle.leaves.specs.Pages.{leaf_at, whole_leaves, entries_on, page_entries, GoodBook, BookChecked, Kept, BookOpened}
 use Rattle.leaves.specs.declared.book_check.BookRefusal.{BookRefusal}

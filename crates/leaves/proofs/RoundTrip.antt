@@ -1,10 +1,10 @@
 -- An entry reads back from its leaf, and a leaf is written back as it was.
-use Rattle.std.proofs.Common.{◌≡◌, ℕ, zero, suc, ◌+◌, ◌-◌, ◌*◌, ◌^◌, ◌<◌, ◌≤◌, min, Bool, true, false, cond, eqb, List, [], ◌∷◌, ◌++◌, length, drop, replicate, ℤ, pos, negsuc, sym, refl, ap, ◌∙◌, arith, w64, SFits, to_z, of_z}
+use Rattle.std.proofs.Common.{◌≡◌, ℕ, suc, ◌-◌, ◌*◌, ◌^◌, ◌<◌, ◌≤◌, min, Bool, true, false, cond, eqb, List, [], ◌∷◌, ◌++◌, length, drop, replicate, ℤ, pos, negsuc, sym, refl, ap, ◌∙◌, arith, w64, SFits, to_z, of_z}
 use mir.ValLaws.{of_z_fits}
 use Rattle.std.proofs.lemmas.List.{length-append, length-replicate, length-map, drop_at, append_assoc}
 use Rattle.std.proofs.lemmas.Int.{to_z-of_z}
-use Rattle.journal.specs.Entries.{Posted, InRange, Lawful, pair_at}
-use Rattle.leaves.specs.Leaf.{bytes32, bytes64, word32, word64, signed_bytes, signed_of, padded, account_bytes, value_bytes, leaf_of, pairs_on, entry_on, IsLeaf, ReadsBack, WritesBack}
+use Rattle.journal.specs.Entries.{Posted, InRange, pair_at}
+use Rattle.leaves.specs.Leaf.{bytes32, bytes64, word32, word64, signed_bytes, signed_of, padded, account_bytes, value_bytes, leaf_of, pairs_on, entry_on, ReadsBack, WritesBack}
 use Rattle.journal.specs.declared.entry.Pair.{Pair}
 
 word_bytes : (n : ℕ) → n < 2 ^ 64 → word64 (bytes64 n) ≡ n

@@ -1,11 +1,10 @@
 -- The check of standing orders, record by record.
-use Rattle.std.proofs.Common.{◌≡◌, ℕ, zero, suc, ◌+◌, ◌<◌, ◌≤◌, Bool, true, false, cond, ◌&&◌, leb, List, [], ◌∷◌, length, get_or, drop, is_ok, Some, None, Ok, Err, Option, Result, sym, refl, ap, ◌∙◌, subst, arith}
+use Rattle.std.proofs.Common.{◌≡◌, ℕ, zero, suc, ◌+◌, ◌<◌, ◌≤◌, Bool, true, false, cond, ◌&&◌, leb, List, [], ◌∷◌, length, drop, is_ok, Some, None, Err, Option, sym, refl, ap, ◌∙◌, subst, arith}
 use Rattle.std.proofs.lemmas.List.{at_drop_more, at_drop_all}
 use Rattle.std.proofs.lemmas.Bool.{and_from, and_parts, le-leb, leb-true, cond-true, cond-false, cond_both}
 use Rattle.posting.specs.Standing.{good_order, first_bad, refused_at, orders_checked, orders_kept, order_at}
 use Rattle.posting.specs.declared.standing_order.StandingOrder.{StandingOrder}
-use Rattle.posting.specs.declared.standing_order.StandingRefusal.{StandingRefusal}
-use Rattle.posting.specs.declared.standing_order.StandingRefusal.TheVariants.{NotOneToSixteen, BadRecord}
+use Rattle.posting.specs.declared.standing_order.StandingRefusal.TheVariants.{NotOneToSixteen}
 
 pub bad_here : (os : List StandingOrder) (k : ℕ) → k < length os → good_order (order_at os k) ≡ false → first_bad k (drop k os) ≡ Some k
 bad_here os k lt bad = at_drop_more (first_bad k) os k _ lt ∙ cond-false (good_order (order_at os k)) _ _ bad

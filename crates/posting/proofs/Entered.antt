@@ -1,11 +1,11 @@
 -- Whatever the balances, a posting worked alone makes a lawful entry.
-use Rattle.std.proofs.Common.{◌≡◌, ℕ, zero, suc, ◌+◌, ◌<◌, ◌≤◌, Bool, true, false, ◌&&◌, leb, List, [], ◌∷◌, ◌++◌, length, get_or, set, replicate, ℤ, Some, None, Option, sym, refl, ap, ◌∙◌, arith, length-set}
+use Rattle.std.proofs.Common.{◌≡◌, ℕ, zero, suc, ◌+◌, ◌≤◌, true, ◌&&◌, leb, List, [], ◌∷◌, length, get_or, set, replicate, ℤ, Some, None, Option, refl, ◌∙◌, arith, length-set}
 use Rattle.std.proofs.lemmas.Bool.{and_from, le-leb}
-use Rattle.journal.specs.Entries.{Posted, posted, InRange, in_range, fits, rises, lawful, is_entry, Lawful}
+use Rattle.journal.specs.Entries.{posted, InRange, in_range, fits, rises, lawful, is_entry, Lawful}
 use Rattle.journal.specs.declared.entry.Pair.{Pair}
 use Rattle.journal.proofs.Lawfulness.{rises_at, rises_rising, lawful_to}
 use Rattle.posting.specs.Sources.{Meaning, OrderKept, HandKept, Limits}
-use Rattle.posting.specs.Alone.{Outcome, sought, noted, told, carried, line_of, pair_of, pairs_from, closed, voided, after, worked, blank, outcome, entry_for, posted_for, Enterable}
+use Rattle.posting.specs.Alone.{Outcome, sought, noted, told, carried, line_of, pairs_from, closed, voided, after, worked, blank, outcome, entry_for, posted_for, Enterable}
 use Rattle.posting.specs.declared.order.Order.{Order}
 use Rattle.posting.specs.declared.order.Order.TheVariants.{Read, Write, GoOn, Done, Void}
 use Rattle.posting.specs.declared.sheet.Draft.{Draft}

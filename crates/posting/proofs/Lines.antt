@@ -1,7 +1,7 @@
 -- A posting worked line by line.
-use Rattle.std.proofs.Common.{◌≡◌, ℕ, zero, suc, ◌+◌, ◌-◌, ◌<◌, ◌≤◌, List, [], ◌∷◌, ◌++◌, length, get_or, set, ℤ, Some, None, Option, sym, refl, ap, ◌∙◌, arith, length-append}
+use Rattle.std.proofs.Common.{◌≡◌, ℕ, zero, suc, ◌+◌, ◌-◌, ◌<◌, ◌≤◌, List, [], ◌∷◌, length, get_or, set, ℤ, Some, None, Option, sym, refl, ap, ◌∙◌, arith}
 use Rattle.posting.specs.Sources.{Meaning}
-use Rattle.posting.specs.Alone.{Outcome, sought, noted, told, carried, line_of, pair_of, pairs_from, closed, voided, after, worked, blank}
+use Rattle.posting.specs.Alone.{sought, noted, told, carried, line_of, pairs_from, closed, voided, after, worked, blank}
 use Rattle.posting.specs.declared.order.Order.{Order}
 use Rattle.posting.specs.declared.order.Order.TheVariants.{Read, Write, GoOn, Done, Void}
 use Rattle.posting.specs.declared.sheet.Sheet.{Sheet}

@@ -1,7 +1,7 @@
 -- A posting depends on the balances only at its reads.
-use Rattle.std.proofs.Common.{◌≡◌, ℕ, zero, suc, ◌+◌, ◌<◌, Bool, true, false, List, [], ◌∷◌, length, get_or, set, ℤ, Some, None, Option, sym, refl, ap, ◌∙◌, arith, length-set}
+use Rattle.std.proofs.Common.{◌≡◌, ℕ, zero, suc, ◌+◌, ◌<◌, Bool, true, List, [], ◌∷◌, length, get_or, set, ℤ, Some, None, Option, refl, ap, ◌∙◌, arith, length-set}
 use Rattle.posting.specs.Sources.{Meaning, OrderKept, Limits}
-use Rattle.posting.specs.Alone.{Outcome, sought, noted, told, carried, line_of, closed, voided, after, worked, blank, Among, Local}
+use Rattle.posting.specs.Alone.{Outcome, sought, noted, told, carried, line_of, after, worked, blank, Among, Local}
 use Rattle.posting.specs.declared.order.Order.{Order}
 use Rattle.posting.specs.declared.order.Order.TheVariants.{Read, Write, GoOn, Done, Void}
 use Rattle.posting.specs.declared.sheet.Sheet.{Sheet}

@@ -1,19 +1,17 @@
 -- A posting of a standing order, line by line.
-use Rattle.std.proofs.Common.{◌≡◌, ℕ, zero, suc, ◌+◌, ◌<◌, ◌≤◌, Bool, true, false, cond, ◌&&◌, eqb, ltb, leb, ◌≢◌, List, [], ◌∷◌, ◌++◌, length, get_or, set, replicate, ℤ, pos, ◌+ℤ◌, ◌-ℤ◌, Some, None, Option, sym, refl, ap, ◌∙◌, zero-add, arith, length-set}
+use Rattle.std.proofs.Common.{◌≡◌, ℕ, zero, suc, ◌+◌, ◌<◌, ◌≤◌, true, false, ◌&&◌, eqb, ltb, leb, List, [], ◌∷◌, length, get_or, set, replicate, ℤ, ◌+ℤ◌, ◌-ℤ◌, Some, None, Option, sym, refl, ap, ◌∙◌, zero-add, arith, length-set}
 use lib.Signed.{le_z}
 use Rattle.std.proofs.lemmas.List.{get_or-set_same, get_or-set_other}
-use Rattle.std.proofs.lemmas.Bool.{and_from, and_parts, le-leb, leb-true, lt-ltb, eq-eqb, ne_eqb, cond-true, cond-false}
+use Rattle.std.proofs.lemmas.Bool.{and_from, and_parts, le-leb, lt-ltb, eq-eqb, ne_eqb, cond-true, cond-false}
 use Rattle.journal.specs.Entries.{InRange, in_range}
 use Rattle.journal.specs.Readings.{given_in}
 use Rattle.posting.specs.Sources.{Meaning, asked}
-use Rattle.posting.specs.Alone.{Outcome, sought, noted, told, carried, line_of, pair_of, pairs_from, closed, after, worked, blank, alone}
-use Rattle.posting.specs.Standing.{good_order, order_at, go_on, next_hand, line_order, line_found, standing}
-use Rattle.posting.specs.Moves.{Stays, Moved, Moves, AlwaysMoves}
-use Rattle.posting.specs.declared.order.Order.{Order}
+use Rattle.posting.specs.Alone.{Outcome, sought, noted, told, carried, line_of, pairs_from, closed, after, worked, blank, alone}
+use Rattle.posting.specs.Standing.{good_order, order_at, line_order, line_found, standing}
+use Rattle.posting.specs.Moves.{AlwaysMoves}
 use Rattle.posting.specs.declared.order.Order.TheVariants.{Read, Write, GoOn, Done, Void}
 use Rattle.posting.specs.declared.sheet.Sheet.{Sheet}
-use Rattle.posting.specs.declared.sheet.Progress.{Progress}
-use Rattle.posting.specs.declared.sheet.Progress.TheVariants.{More, Ended, Voided}
+use Rattle.posting.specs.declared.sheet.Progress.TheVariants.{More, Ended}
 use Rattle.posting.specs.declared.standing_order.StandingOrder.{StandingOrder}
 use Rattle.posting.proofs.Outside.{asked_hand}
 use Rattle.posting.proofs.StandingLimits.{good_parts}

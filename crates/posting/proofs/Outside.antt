@@ -1,10 +1,10 @@
 -- A source that answers void to every question out of range keeps the limits of a source.
-use Rattle.std.proofs.Common.{◌≡◌, ℕ, ◌≤◌, Bool, true, false, cond, ◌&&◌, ltb, leb, ℤ, Some, None, Option, refl}
+use Rattle.std.proofs.Common.{◌≡◌, ℕ, ◌≤◌, Bool, true, false, cond, ◌&&◌, ltb, leb, ℤ, None, Option, refl}
 use Rattle.std.proofs.lemmas.Bool.{and_parts, and_right, leb-true, cond-false, cond_both}
 use Rattle.journal.specs.Entries.{InRange, in_range}
 use Rattle.posting.specs.Sources.{Meaning, asked, OrderKept, HandKept, is_read, Limits, void_outside}
 use Rattle.posting.specs.declared.order.Order.{Order}
-use Rattle.posting.specs.declared.order.Order.TheVariants.{Read, Write, GoOn, Done, Void}
+use Rattle.posting.specs.declared.order.Order.TheVariants.{Void}
 
 -- the limits where a question is in range
 pub record Inside (m : Meaning) : Type 0 where

@@ -1,12 +1,11 @@
 -- Standing orders keep the limits of a source.
-use Rattle.std.proofs.Common.{◌≡◌, ℕ, ◌≤◌, Bool, true, false, cond, ◌&&◌, eqb, leb, List, length, ℤ, pos, ◌+ℤ◌, ◌-ℤ◌, Some, None, Option, sym, refl, ap, ◌∙◌, subst, ⊎_elim, arith}
+use Rattle.std.proofs.Common.{◌≡◌, ℕ, ◌≤◌, true, false, cond, eqb, leb, List, length, ℤ, ◌+ℤ◌, ◌-ℤ◌, Some, None, refl, ap, ◌∙◌, subst, ⊎_elim, arith}
 use lib.Signed.{le_z}
 use Rattle.std.proofs.lemmas.List.{get_or_past}
 use Rattle.std.proofs.lemmas.Bool.{and_parts, leb-true, eqb-true, cases_Bool, both_ways, cond-false, cond_both}
 use Rattle.journal.specs.Entries.{InRange, in_range}
 use Rattle.posting.specs.Sources.{OrderKept, HandKept, is_read, Limits}
 use Rattle.posting.specs.Standing.{good_order, order_at, go_on, next_hand, line_order, line_found, standing}
-use Rattle.posting.specs.declared.order.Order.{Order}
 use Rattle.posting.specs.declared.order.Order.TheVariants.{Read, Write, GoOn, Done, Void}
 use Rattle.posting.specs.declared.standing_order.StandingOrder.{StandingOrder}
 use Rattle.posting.proofs.Outside.{limits_outside, asked_hand}

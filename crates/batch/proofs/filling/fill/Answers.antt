@@ -1,7 +1,7 @@
-use Rattle.std.proofs.Common.{◌≡◌, ℕ, ◌<◌, List, ◌∷◌, length, Ok, sym, ap, ◌∙◌, arith, rules, true-eqb, false-eqb}
+use Rattle.std.proofs.Common.{◌≡◌, ◌<◌, ◌∷◌, length, Ok, sym, ap, ◌∙◌, arith, true-eqb, false-eqb}
 use Rattle.batch.specs.Plans.{terms, plan_after, noted}
 use Rattle.batch.specs.Reading.{batch}
-use Rattle.batch.specs.Tables.{seen_in, postings_in, orders_in, runs_in, posting_of, order_of, run_of, Grown}
+use Rattle.batch.specs.Tables.{seen_in, postings_in, orders_in, runs_in, posting_of, order_of, run_of}
 use Rattle.batch.proofs.Cuts.{after_less}
 use Rattle.batch.proofs.Said.{known_more, step_ok}
 use Rattle.batch.proofs.Rolling.{grown_more, grown_same, anew, tabled, planned_houses, planned_workers, never_refused, said_all}

@@ -1,4 +1,4 @@
-use Rattle.std.proofs.Common.{◌≡◌, ℕ, ◌<◌, length, pos, neg_ℤ, Some, sym, ap, ◌∙◌, arith, w64, rules}
+use Rattle.std.proofs.Common.{◌≡◌, ◌<◌, length, pos, neg_ℤ, Some, sym, ap, ◌∙◌, arith, w64, rules}
 use Rattle.std.proofs.lemmas.Int.{to_z_pos}
 use Rattle.std.specs.Option.{option_map}
 use Rattle.batch.proofs.Signs.{cents_none, cents_minus, cents_plain, minus_value}

@@ -1,4 +1,4 @@
-use Rattle.std.proofs.Common.{◌≡◌, ℕ, ◌^◌, ◌<◌, ◌≤◌, length, get_or, drop, sym, ap, ◌∙◌, arith, rules}
+use Rattle.std.proofs.Common.{◌≡◌, ◌<◌, length, drop, arith, rules}
 use Rattle.batch.proofs.Digits.{unwritten_none, unwritten_zero, unwritten_low, unwritten_high, unwritten_large, written_zero, written_all, digits_more, read_more}
 use Rattle.batch.proofs.numbers.decimal_in.Goals as goal
 

@@ -1,4 +1,4 @@
-use Rattle.std.proofs.Common.{◌≡◌, sym, arith}
+use Rattle.std.proofs.Common.{sym, arith}
 use Rattle.batch.proofs.Digits.{natural_some, natural_unwritten, natural_below, natural_above}
 use Rattle.batch.proofs.numbers.natural.Goals as goal
 

@@ -1,4 +1,4 @@
-use Rattle.std.proofs.Common.{◌≡◌, ℕ, ◌+◌, ◌<◌, ◌≤◌, Bool, cond, List, ◌∷◌, length, Ok, Err, sym, ap, ◌∙◌, arith, rules, false-eqb}
+use Rattle.std.proofs.Common.{◌≡◌, ◌+◌, ◌<◌, ◌≤◌, Bool, cond, ◌∷◌, length, Ok, Err, sym, ap, ◌∙◌, arith, rules, false-eqb}
 use Rattle.batch.specs.declared.items.BatchRefusal.TheVariants.{End}
 use Rattle.batch.specs.Reading.{answered}
 use Rattle.batch.specs.Refusals.{refusal_at}

@@ -1,4 +1,4 @@
-use Rattle.std.proofs.Common.{◌≡◌, ◌-◌, sym, refl, ap, ◌∙◌, arith, w64, rules}
+use Rattle.std.proofs.Common.{◌≡◌, ◌-◌, ◌∙◌, arith, w64}
 use Rattle.std.proofs.lemmas.Int.{to_z-of_z}
 use Rattle.posting.specs.Alone.{balances_after}
 use Rattle.posting.proofs.Lines.{worked_more, worked_ended, worked_voided, worked_out, worked_all, worked_same, lines_few, blank_none}

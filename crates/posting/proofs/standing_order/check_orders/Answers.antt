@@ -1,4 +1,4 @@
-use Rattle.std.proofs.Common.{sym, ◌∙◌, arith, rules}
+use Rattle.std.proofs.Common.{sym, ◌∙◌, arith}
 use Rattle.std.proofs.lemmas.Bool.{eqb-false}
 use Rattle.posting.proofs.Checked.{bad_here, good_next, all_good, checked_at}
 use Rattle.posting.proofs.standing_order.check_orders.Goals as goal

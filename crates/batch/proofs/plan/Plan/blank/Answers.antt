@@ -1,4 +1,4 @@
-use Rattle.std.proofs.Common.{ℕ, pos, nat_abs, ap, arith, rules}
+use Rattle.std.proofs.Common.{ℕ, pos, nat_abs, ap, arith}
 use Rattle.batch.proofs.Zeros.{all_same}
 use Rattle.batch.proofs.plan.Plan.blank.Goals as goal
 

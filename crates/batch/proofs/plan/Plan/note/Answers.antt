@@ -1,4 +1,4 @@
-use Rattle.std.proofs.Common.{◌≡◌, ℕ, ◌<◌, ◌≤◌, ℤ, pos, nat_abs, sym, ap, subst, arith, w64, SFits, rules}
+use Rattle.std.proofs.Common.{ℕ, ◌<◌, pos, nat_abs, sym, ap, subst, arith, w64, SFits, rules}
 use Rattle.std.proofs.lemmas.Int.{to_z-of_z}
 use Rattle.journal.specs.Entries.{InRange}
 use Rattle.batch.specs.declared.items.Item.TheVariants.{Begins, Opened, Kept}

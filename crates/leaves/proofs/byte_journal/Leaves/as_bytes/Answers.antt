@@ -1,6 +1,5 @@
-use Rattle.std.proofs.Common.{◌≡◌, ℕ, ◌*◌, ◌/◌, ◌≤◌, List, length, take, sym, ap, ◌∙◌, subst, arith, Fits-lit}
+use Rattle.std.proofs.Common.{◌≡◌, ℕ, ◌*◌, ◌/◌, ◌≤◌, List, length, take, sym, ap, ◌∙◌, subst, arith}
 use Rattle.std.proofs.lemmas.List.{length-take-le}
-use Rattle.journal.specs.Entries.{Posted}
 use Rattle.leaves.specs.Pages.{leaves_used, entries_on, GoodBook}
 use Rattle.leaves.proofs.PageEntries.{length_entries}
 use Rattle.leaves.proofs.PageBooks.{front_entries, front_good}

@@ -1,9 +1,9 @@
-use Rattle.std.proofs.Common.{◌≡◌, ℕ, ◌+◌, ◌-◌, ◌*◌, ◌/◌, ◌<◌, ◌≤◌, min, List, [], ◌∷◌, ◌++◌, length, take, drop, sym, refl, ap, ◌∙◌, subst, arith, rules, below_more}
+use Rattle.std.proofs.Common.{◌≡◌, ℕ, ◌+◌, ◌-◌, ◌*◌, ◌/◌, ◌≤◌, min, List, [], ◌∷◌, ◌++◌, length, take, sym, refl, ap, ◌∙◌, subst, arith, rules, below_more}
 use borrow.Rule.Slice.PartMut.{put_mid}
 use Rattle.std.proofs.lemmas.List.{drop-drop}
-use Rattle.journal.specs.Entries.{Posted, posted}
+use Rattle.journal.specs.Entries.{posted}
 use Rattle.leaves.specs.Leaf.{leaf_of, IsLeaf}
-use Rattle.leaves.specs.Pages.{leaf_at, leaf_put, whole_leaves, leaves_used, entries_on}
+use Rattle.leaves.specs.Pages.{leaf_at, leaf_put, leaves_used, entries_on}
 use Rattle.leaves.specs.Stores.{leaf_entries, leaf_size}
 use Rattle.journal.proofs.Filed.{filing_ok}
 use Rattle.leaves.proofs.PageEntries.{length_entries}

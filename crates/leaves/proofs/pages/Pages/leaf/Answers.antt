@@ -1,4 +1,4 @@
-use Rattle.std.proofs.Common.{◌≡◌, ◌<◌, ◌≤◌, sym, ap, ◌∙◌, arith}
+use Rattle.std.proofs.Common.{◌<◌, arith}
 use Rattle.leaves.specs.Pages.{leaves_used}
 use Rattle.leaves.proofs.PageEntries.{on_leaf, off_leaf}
 use Rattle.leaves.proofs.pages.Pages.leaf.Goals as goal

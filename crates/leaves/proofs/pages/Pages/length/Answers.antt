@@ -1,4 +1,4 @@
-use Rattle.std.proofs.Common.{◌≡◌, ℕ, min, sym, ap, ◌∙◌}
+use Rattle.std.proofs.Common.{ℕ, min, sym, ap, ◌∙◌}
 use Rattle.leaves.specs.Pages.{leaves_used}
 use Rattle.leaves.proofs.PageEntries.{length_entries}
 use Rattle.leaves.proofs.pages.Pages.length.Goals as goal
