@@ -1,12 +1,11 @@
 -- The lines of a closed book: each has room, and they come one after the other.
-use Rattle.std.proofs.Common.{◌≡◌, ℕ, suc, ◌+◌, ◌<◌, ◌≤◌, Bool, true, false, cond, leb, List, [], ◌∷◌, ◌++◌, length, take, drop, Some, None, Ok, Err, Option, Result, sym, refl, ap, ◌∙◌, subst, append_assoc, append-nil, add-one, arith}
-use Rattle.std.specs.List.{slice_get}
+use Rattle.std.proofs.Common.{◌≡◌, ℕ, ◌+◌, ◌<◌, ◌≤◌, Bool, true, false, cond, leb, List, [], ◌++◌, length, take, drop, Some, None, Ok, Err, Option, sym, refl, ap, ◌∙◌, append_assoc, append-nil, add-one, arith}
 use Rattle.std.proofs.lemmas.List.{take_at}
 use Rattle.std.proofs.lemmas.Bool.{leb-true, le-leb}
 use Rattle.journal.specs.Entries.{Posted, Lawful}
-use Rattle.journal.specs.Lines.{entry_line, answer_for, answer_of, in_front, line_over}
+use Rattle.journal.specs.Lines.{entry_line, answer_of, line_over}
 use Rattle.journal.specs.declared.lines.LineRefusal.{LineRefusal}
-use Rattle.journal.specs.declared.lines.LineRefusal.TheVariants.{NoSuchEntry, DoesNotFit}
+use Rattle.journal.specs.declared.lines.LineRefusal.TheVariants.{DoesNotFit}
 use Rattle.journal.proofs.Widths.{longest_line_lem}
 use Rattle.book.specs.Printed.{in_turn, line_of}
 

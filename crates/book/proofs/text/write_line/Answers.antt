@@ -1,4 +1,4 @@
-use Rattle.std.proofs.Common.{◌≡◌, sym, ap, ◌∙◌, arith}
+use Rattle.std.proofs.Common.{arith}
 use Rattle.std.specs.List.{slice_get}
 use Rattle.leaves.specs.Stores.{book_entries}
 use Rattle.leaves.proofs.BookEntries.{book_lawful}
