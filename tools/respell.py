@@ -1,7 +1,7 @@
 #!/usr/bin/env python3
 """Brings the names of this repository's own definitions and lemmas to today's spelling: words in snake case, types in camel case.
 
-usage: tools/respell.py [FOLDER]     once, after the kit's port.py, at the top of the repository (or of FOLDER)
+usage: tools/respell.py [FOLDER]     after the kit's port.py, at the top of the repository (or of FOLDER); a second run changes nothing
 
 A word is a definition, a lemma, a field or a constructor of specs/ or of the lemma files of proofs/. A word that begins with a
 capital is a type or a statement. Names of src/, names that the check makes (in proofs/F/), strings and Rust code stay as they are.
@@ -30,15 +30,15 @@ OTHERWISE = {
     "takes-up": "takes_up_lem",
 }
 
-# the same for a lemma that port.py respelled: the file below crates/, the lemma, its name
+# the same for a lemma that port.py respelled: the file below crates/, the lemma, its name, and the word that takes the lemma's
 LEMMAS = (
-    ("protocol/proofs/TurnsTaken.antt", "each_turn", "each_turn_lem"),
-    ("protocol/proofs/Outcomes.antt", "hand_at", "hand_at_lem"),
-    ("protocol/proofs/Outcomes.antt", "turn_in", "turn_in_lem"),
+    ("protocol/proofs/TurnsTaken.antt", "each_turn", "each_turn_lem", "eachTurn"),
+    ("protocol/proofs/Outcomes.antt", "hand_at", "hand_at_lem", "handAt"),
+    ("protocol/proofs/Outcomes.antt", "turn_in", "turn_in_lem", "turnIn"),
 )
 
 TOKEN = re.compile(r"[^\s(){}\[\];,.\"λ«»|@]+")
-DEFINES = re.compile(r"^\s*(?:(?:abbrev|unfoldable|pub|record|data|let) )*([^\s:(){}]+)(?: [({].*)? : ")
+DEFINES = re.compile(r"^\s*(?:(?:abbrev|unfoldable|pub|record|data|let) )*([^\s:(){}]+)(?: [({].*)? :(?: |$)")
 
 
 def files(root, ending):
@@ -75,7 +75,7 @@ def words(root):
             continue
         with open(path, encoding="utf-8") as f:
             for line in f:
-                m = DEFINES.match(line)
+                m = DEFINES.match(line.rstrip("\n"))
                 if m and not line.lstrip().startswith("--") and old_spelling(m.group(1)):
                     found[m.group(1)] = OTHERWISE.get(m.group(1), respelled(m.group(1)))
     # another name under which a clause imports a word
@@ -101,14 +101,14 @@ def turned(text, found, comment):
 
 
 def main(root):
-    for name, old, new in LEMMAS:
+    found = words(root)
+    for name, old, new, word in LEMMAS:
         path = os.path.join(root, "crates", name)
-        if os.path.exists(path):
+        if word in found and os.path.exists(path):
             with open(path, encoding="utf-8") as f:
                 text = f.read()
             with open(path, "w", encoding="utf-8") as f:
                 f.write(turned(text, {old: new}, "--"))
-    found = words(root)
     for ending, comment in ((".antt", "--"), (".rt", "//")):
         for path in files(root, ending):
             with open(path, encoding="utf-8") as f:

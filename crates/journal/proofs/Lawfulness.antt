@@ -43,13 +43,13 @@ rises_rising least (p ∷ ps) (suc i) (suc j) h lt l =
     rises_rising (p.account + 1) ps i j parts.1 (le_of_suc-le-suc lt) (le_of_suc-le-suc l)
 
 -- pairs that rise and fit pass the test
-pub rising-rises :
+pub rising_rises :
     (least : ℕ) (ps : List Pair) → ((j : ℕ) → j < length ps → At least (pair_at ps j))
     → ((i j : ℕ) → i < j → j < length ps → (pair_at ps i).account < (pair_at ps j).account) → rises least ps ≡ true
-rising-rises least [] each rising = refl
-rising-rises least (p ∷ ps) each rising =
+rising_rises least [] each rising = refl
+rising_rises least (p ∷ ps) each rising =
     and_from (fits least p) (rises (p.account + 1) ps) (at_fits least p (each 0 (omega arith)))
-    (rising-rises (p.account + 1) ps
+    (rising_rises (p.account + 1) ps
     (λ j l. let at = each (suc j) (omega arith) in let above = rising 0 (suc j) (omega arith) (omega arith) in
     record { from = omega arith; to = at.to; value = at.value })
     (λ i j lt l. rising (suc i) (suc j) (omega arith) (omega arith)))
@@ -93,7 +93,7 @@ lawful_to e h =
     (and_from (in_range e.hand) _ (le-leb _ _ h.hand)
     (and_from (leb (length ps) 16) _ (le-leb _ _ h.few)
     (and_from (not e.void || none ps) (rises 0 ps) (none_void e.void ps h.void)
-    (rising-rises 0 ps (λ j l. record { from = omega arith; to = h.accounts j l; value = h.values j l }) h.rising))))))
+    (rising_rises 0 ps (λ j l. record { from = omega arith; to = h.accounts j l; value = h.values j l }) h.rising))))))
 
 pub entry_decided : (e : Entry) (r : Bool) → r ≡ is_entry e → Decides r (IsEntry e)
 entry_decided e r is = (

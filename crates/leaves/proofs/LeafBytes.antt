@@ -53,10 +53,10 @@ value_more ps j w bs lt eight is =
     ∙ ap (λ (qs : List Pair). padded 128 (flat_map f qs)) (sym (take_more ps j _ lt))
 
 -- the head, from its parts
-pub head-is :
+pub head_is :
     (e : Posted) (v k : ℕ) (nb hb : List ℕ) → v ≡ cond e.void 1 0 → k ≡ length e.pairs → nb ≡ bytes32 e.number → hb ≡ signed_bytes e.hand
     → e.house ∷ v ∷ k ∷ 0 ∷ get_or nb 0 0 ∷ get_or nb 1 0 ∷ get_or nb 2 0 ∷ get_or nb 3 0 ∷ get_or hb 0 0 ∷ get_or hb 1 0 ∷ get_or hb 2 0 ∷ get_or hb 3 0 ∷ get_or hb 4 0 ∷ get_or hb 5 0 ∷ get_or hb 6 0 ∷ get_or hb 7 0 ∷ [] ≡ head_of e
-head-is e v k nb hb ev ek en eh = simp (ev, ek, en, eh)
+head_is e v k nb hb ev ek en eh = simp (ev, ek, en, eh)
 
 -- three parts written one after the other over 160 bytes
 pub three_parts : (bs head accounts values : List ℕ) → length bs ≡ 160 → length head ≡ 16 → length accounts ≡ 16 → put_mid 32 128 (put_mid 16 16 (put_mid 0 16 bs head) accounts) values ≡ head ++ (accounts ++ values)
@@ -70,11 +70,11 @@ three_parts bs head accounts values lb lh la =
     ∙ append_assoc head accounts values
 
 -- the three parts make the leaf
-pub leaf-written :
+pub leaf_written :
     (e : Posted) (ps : List Pair) (bs head accounts values : List ℕ) → length bs ≡ 160 → length ps ≤ 16 → ps ≡ e.pairs
     → head ≡ head_of e → accounts ≡ padded 16 (account_bytes ps) → values ≡ padded 128 (value_bytes ps)
     → put_mid 32 128 (put_mid 16 16 (put_mid 0 16 bs head) accounts) values ≡ leaf_of e
-leaf-written e ps bs head accounts values lb few is h a v =
+leaf_written e ps bs head accounts values lb few is h a v =
     three_parts bs head accounts values lb (ap length h) (ap length a ∙ accounts_whole ps few)
     ∙ ap (λ (xs : List ℕ). xs ++ (accounts ++ values)) h
     ∙ ap (λ (xs : List ℕ). head_of e ++ (xs ++ values)) a

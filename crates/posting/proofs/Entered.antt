@@ -12,7 +12,7 @@ use Rattle.posting.specs.declared.sheet.Draft.{Draft}
 use Rattle.posting.specs.declared.sheet.Sheet.{Sheet}
 use Rattle.posting.specs.declared.sheet.Progress.{Progress}
 use Rattle.posting.specs.declared.sheet.Progress.TheVariants.{More, Ended, Voided}
-use Rattle.posting.proofs.Lines.{line-adds, blank_none}
+use Rattle.posting.proofs.Lines.{line_adds, blank_none}
 
 -- every value that was written is in range
 unfoldable ValuesKept : List (Option ℤ) → Type 0
@@ -84,12 +84,12 @@ closed_sound s k few = record {
 voided_sound : (start : ℤ) (s : Sheet) → InRange start → Sound (voided start s)
 voided_sound start s h = record { hand = h; few = omega arith; rising = refl; void = λ e. refl }
 
-after-sound :
+after_sound :
     (start : ℤ) (rest : Sheet → Outcome) (left : ℕ) (p : Progress × Sheet) → InRange start → Kept p.1 → length (pairs_from 0 p.1.written) + left ≤ 16
     → ((t : Sheet) → Kept t → length (pairs_from 0 t.written) + left ≤ 16 → Sound (rest t)) → Sound (after start rest p)
-after-sound start rest left (More, t) h k few sound = sound t k few
-after-sound start rest left (Ended, t) h k few sound = closed_sound t k (omega arith)
-after-sound start rest left (Voided, t) h k few sound = voided_sound start t h
+after_sound start rest left (More, t) h k few sound = sound t k few
+after_sound start rest left (Ended, t) h k few sound = closed_sound t k (omega arith)
+after_sound start rest left (Voided, t) h k few sound = voided_sound start t h
 
 module _ (m : Meaning) (limits : Limits m) (house number : ℕ) (balance : ℕ → ℤ) (start : ℤ) (h : InRange start) where
   worked_sound : (left line : ℕ) (s : Sheet) → Kept s → length (pairs_from 0 s.written) + left ≤ 16 → Sound (worked m house number balance start left line s)
@@ -97,8 +97,8 @@ module _ (m : Meaning) (limits : Limits m) (house number : ℕ) (balance : ℕ �
   worked_sound zero line s k few = closed_sound s k (omega arith)
   worked_sound (suc left) line s k few =
       let next = line_of m house number balance line s in
-      let more = line-adds m house number balance line s next.1 next.0 refl in
-      after-sound start (worked m house number balance start left (line + 1)) left next h
+      let more = line_adds m house number balance line s next.1 next.0 refl in
+      after_sound start (worked m house number balance start left (line + 1)) left next h
       (carried_kept (m.order house number line s.hand) (m.found house number line s.hand) balance s
       (limits.orders house number line s.hand) (limits.hands house number line s.hand) k)
       (omega arith)

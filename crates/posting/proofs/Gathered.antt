@@ -36,10 +36,10 @@ pairs_append a (x ∷ ws) w =
     ∙ sym (append_assoc (pair_of a x) (pairs_from (a + 1) ws) _)
 
 -- the pair of the next account joins those of the accounts before it
-pub gather-more :
+pub gather_more :
     (ws : List (Option ℤ)) (a : ℕ) (d : Option ℤ) (ps qs : List Pair) → a < length ws → ps ≡ take 16 (pairs_from 0 (take a ws))
     → qs ≡ take 16 (ps ++ pair_of a (get_or ws a d)) → qs ≡ take 16 (pairs_from 0 (take (a + 1) ws))
-gather-more ws a d ps qs lt before now =
+gather_more ws a d ps qs lt before now =
     let n : 0 + length (take a ws) ≡ a = simp length-take (omega arith) in
     now ∙ ap (λ x. take 16 (x ++ pair_of a (get_or ws a d))) before ∙ take_twice 16 (pairs_from 0 (take a ws)) (pair_of a (get_or ws a d))
     ∙ ap (λ k. take 16 (pairs_from 0 (take a ws) ++ pair_of k (get_or ws a d))) (sym n)

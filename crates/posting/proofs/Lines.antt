@@ -64,10 +64,10 @@ carried_adds (GoOn hand) found balance s = omega arith
 carried_adds Done found balance s = omega arith
 carried_adds Void found balance s = omega arith
 
-pub line-adds :
+pub line_adds :
     (m : Meaning) (house number : ℕ) (balance : ℕ → ℤ) (line : ℕ) (s t : Sheet) (p : Progress)
     → (p, t) ≡ line_of m house number balance line s → length (pairs_from 0 t.written) ≤ length (pairs_from 0 s.written) + 1
-line-adds m house number balance line s t p e =
+line_adds m house number balance line s t p e =
     let same : length (pairs_from 0 t.written) ≡ length (pairs_from 0 (line_of m house number balance line s).1.written) =
     ap (λ (x : Progress × Sheet). length (pairs_from 0 x.1.written)) e in
     omega (arith, carried_adds (m.order house number line s.hand) (m.found house number line s.hand) balance s)
@@ -76,7 +76,7 @@ line-adds m house number balance line s t p e =
 pub lines_few :
     (m : Meaning) (house number : ℕ) (balance : ℕ → ℤ) (line : ℕ) (s t : Sheet) (p : Progress)
     → length (pairs_from 0 s.written) ≤ line → (p, t) ≡ line_of m house number balance line s → length (pairs_from 0 t.written) ≤ line + 1
-lines_few m house number balance line s t p few e = omega (arith, line-adds m house number balance line s t p e)
+lines_few m house number balance line s t p few e = omega (arith, line_adds m house number balance line s t p e)
 
 pub blank_none : (start : ℤ) → length (pairs_from 0 (blank start).written) ≡ 0
 unfolding pairs_from

@@ -101,17 +101,17 @@ module _ (m : Meaning) (house number : ℕ) (start : ℤ) where
       (λ t k. worked_keeps balance left (line + 1) t a k)
       (carried_keeps (m.order house number line s.hand) (m.found house number line s.hand) balance s a h)
 
-  worked-local :
+  worked_local :
       ((line : ℕ) (hand : ℤ) → OrderKept (m.order house number line hand)) → (these those : ℕ → ℤ) (left line : ℕ) (s : Sheet) → length s.reads ≡ 64
       → ((a : ℕ) → Among (worked m house number these start left line s).reads a → these a ≡ those a)
       → worked m house number these start left line s ≡ worked m house number those start left line s
   unfolding worked
-  worked-local kept these those zero line s all h = refl
-  worked-local kept these those (suc left) line s all h =
+  worked_local kept these those zero line s all h = refl
+  worked_local kept these those (suc left) line s all h =
       after_same start (worked m house number these start left (line + 1)) (worked m house number those start left (line + 1)) these those
       (line_of m house number these line s)
       (carried_length (m.order house number line s.hand) (m.found house number line s.hand) these s ∙ all)
-      (λ t same k. worked-local kept these those left (line + 1) t same k) h
+      (λ t same k. worked_local kept these those left (line + 1) t same k) h
       ∙ ap (after start (worked m house number those start left (line + 1)))
       (carried_same (m.order house number line s.hand) (m.found house number line s.hand) these those s (kept line s.hand) all
       (λ a k. h a (after_keeps start (worked m house number these start left (line + 1)) (line_of m house number these line s) a
@@ -127,4 +127,4 @@ module _ (m : Meaning) (house number : ℕ) (start : ℤ) where
 
 pub always_local : (m : Meaning) → Limits m → Local m
 always_local m limits house number start these those h =
-    worked-local m house number start (limits.orders house number) these those m.longest 0 (blank start) refl h
+    worked_local m house number start (limits.orders house number) these those m.longest 0 (blank start) refl h

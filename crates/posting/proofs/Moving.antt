@@ -45,10 +45,10 @@ none_at (suc n) (suc a) = none_at n a
 -- one line, by its order
 
 module _ (m : Meaning) (house number : ℕ) (balance : ℕ → ℤ) (line : ℕ) (s : Sheet) where
-  reads-balance :
+  reads_balance :
       (a : ℕ) (hand : ℤ) → m.order house number line s.hand ≡ Read a → get_or s.written a None ≡ None → m.found house number line s.hand (balance a) ≡ Some hand
       → line_of m house number balance line s ≡ (More, record { hand = hand; reads = set s.reads a true; written = s.written })
-  reads-balance a hand order unwritten found =
+  reads_balance a hand order unwritten found =
       ap (λ o. carried o (m.found house number line s.hand) balance s) order
       ∙ ap (λ w. told (m.found house number line s.hand (sought w (balance a))) (noted w a s)) unwritten
       ∙ ap (λ next. told next (noted None a s)) found
@@ -122,7 +122,7 @@ module _ (os : List StandingOrder) (house number : ℕ) (start : ℤ) (balance :
     line0 : line_of (standing os) house number balance 0 (blank start) ≡ (More, sheet1)
     line0 =
         let s : InRange start = asked_hand (standing os) house number 0 start in-range in
-        reads-balance (standing os) house number balance 0 (blank start) (order_at os house).from (balance (order_at os house).from)
+        reads_balance (standing os) house number balance 0 (blank start) (order_at os house).from (balance (order_at os house).from)
         (order_is 0 start (omega arith) s) (none_at 64 (order_at os house).from) (found_is 0 start (balance (order_at os house).from) (omega arith) s h)
 
     stays : le_z (balance (order_at os house).from) (order_at os house).floor ≡ true → alone (standing os) balance house number start ≡ closed sheet1
@@ -146,7 +146,7 @@ module _ (os : List StandingOrder) (house number : ℕ) (start : ℤ) (balance :
         goes_on (standing os) house number balance 2 sheet2 rest
         (order_is 2 sheet2.hand (omega arith) h ∙ cond-true (in_range rest) (GoOn rest) Void (le-leb _ _ r)) in
         let line3 : line_of (standing os) house number balance 3 sheet3 ≡ (More, sheet4) =
-        reads-balance (standing os) house number balance 3 sheet3 (order_at os house).to sheet4.hand
+        reads_balance (standing os) house number balance 3 sheet3 (order_at os house).to sheet4.hand
         (order_is 3 rest (omega arith) r)
         (get_or-set_other (replicate 64 None) (order_at os house).from (order_at os house).to (Some (order_at os house).floor) None (λ e. apart (sym e))
         ∙ none_at 64 (order_at os house).to)

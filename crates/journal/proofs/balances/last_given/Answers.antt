@@ -16,9 +16,9 @@ back es a (suc n) o h e =
     ∙ ap (λ (x : Option ℤ). given_here (suc n - 1) x (last_given es a (suc n - 1))) (sym e)
 
 -- each answer as it is defined is the last
-pub last-given : (es : List Posted) (a k : ℕ) → IsLast es a k (last_given es a k)
-last-given es a zero = λ j l. absurd (not-suc-le-zero l)
-last-given es a (suc k) = here (given_at es k a) refl (last_given es a k) (last-given es a k) where
+pub is_last : (es : List Posted) (a k : ℕ) → IsLast es a k (last_given es a k)
+is_last es a zero = λ j l. absurd (not-suc-le-zero l)
+is_last es a (suc k) = here (given_at es k a) refl (last_given es a k) (is_last es a k) where
   later : (P : ℕ → Type 0) → ((j : ℕ) → j < k → P j) → P k → (j : ℕ) → j < suc k → P j
   later P below at j l = below_more P k below at j (omega arith)
 
@@ -30,7 +30,7 @@ last-given es a (suc k) = here (given_at es k a) refl (last_given es a k) (last-
 
 -- what is defined is the last, whatever term stands for it
 told : (es : List Posted) (a k : ℕ) (r : Option Given) → r ≡ last_given es a k → (r ≡ last_given es a k) × IsLast es a k r
-told es a k r e = (e, subst (IsLast es a k) (sym e) (last-given es a k))
+told es a k r e = (e, subst (IsLast es a k) (sym e) (is_last es a k))
 
 pub loop-place-init : goal.loop-place-init
 loop-place-init g c =

@@ -1,7 +1,7 @@
 use Rattle.std.proofs.Common.{◌≡◌, ◌<◌, ◌≤◌, length, take, ap, ◌∙◌, arith, rules}
 use Rattle.std.proofs.lemmas.List.{take_all}
 use Rattle.posting.specs.Alone.{pairs_from}
-use Rattle.posting.proofs.Gathered.{gather-more, gather_none}
+use Rattle.posting.proofs.Gathered.{gather_more, gather_none}
 use Rattle.posting.proofs.pairs.gather.Goals as goal
 
 pub loop-account-init : goal.loop-account-init
@@ -12,7 +12,7 @@ pub loop-account-preserved : goal.loop-account-preserved
 loop-account-preserved c =
     let all : length c.args.written.now ≡ 64 = search rules in
     let lt : c.loop-account.account < length c.args.written.now = omega (arith, c.loop-account-test.true, all) in
-    (c.add.ensures.few, c.add.ensures.room, gather-more c.args.written.now c.loop-account.account _ _ _ lt c.loop-account.invariant.2 c.add.ensures.value)
+    (c.add.ensures.few, c.add.ensures.room, gather_more c.args.written.now c.loop-account.account _ _ _ lt c.loop-account.invariant.2 c.add.ensures.value)
 
 pub returns : goal.returns
 returns c =
