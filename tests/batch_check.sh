@@ -1,11 +1,16 @@
 #!/usr/bin/env bash
-# Runs the built program on every sample batch, on damaged ones, and on input that is empty, too long or random: it prints its answer
+# Builds the program and runs it on every sample batch, on damaged ones, and on input that is empty, too long or random: it prints its answer
 # and ends with status 0.
 set -u
 cd "$(dirname "$0")/.." || exit 2
-batch_check=target/bin/batch_check
+batch_check=crates/batch_check/out/batch_check
 cases=tests/cases
 failed=0
+
+if ! (cd crates/batch_check && rt run) < crates/batch_check/stdin > /dev/null 2>&1; then
+    echo "tests/batch_check.sh: the program is not built"
+    exit 1
+fi
 
 run() { # the program, which gets along with 16 megabytes, its code and libraries included
     ulimit -v 16384 && exec "$batch_check"

@@ -1,10 +1,15 @@
 #!/usr/bin/env bash
-# Runs the built program on input that is empty, broken, too long or random: it prints its answer and ends with status 0.
+# Builds the program and runs it on input that is empty, broken, too long or random: it prints its answer and ends with status 0.
 set -u
 cd "$(dirname "$0")/.." || exit 2
-book=target/bin/book
+book=crates/book/out/book
 example=crates/book/stdin
 failed=0
+
+if ! (cd crates/book && rt run) < "$example" > /dev/null 2>&1; then
+    echo "tests/book.sh: the program is not built"
+    exit 1
+fi
 
 expect() { # a name, the text that must be printed; standard input is what the program reads
     local got status

@@ -8,7 +8,7 @@ use Rattle.std.specs.Str.{bytes_eq}
 use Rattle.std.proofs.lemmas.Slice.Eq.{bytes_eq-Decides}
 use Rattle.std.proofs.lemmas.List.{append_assoc, append-nil}
 use Rattle.std.proofs.lemmas.Bool.{and_parts}
-use Rattle.journal.specs.Lines.{commaed, parted}
+use Rattle.journal.specs.Lines.{commaed}
 use Rattle.batch.specs.declared.records.OrderLine.{OrderLine}
 use Rattle.batch.specs.declared.records.OrderLine.TheVariants as line
 use Rattle.batch.specs.declared.items.Kind.{Kind}
@@ -66,7 +66,11 @@ unfoldable pub written : List Item → List ℕ
 written [] = []
 written (i ∷ past) = written past ++ item_line (seen_in past) i
 
--- commas between fields stand before each but the first
+-- fields parted by commas: a comma before each but the first
+abbrev pub parted : List (List ℕ) → List ℕ
+parted [] = []
+parted (f ∷ fs) = f ++ commaed fs
+
 parted_commas : (ps : List (List ℕ)) → parted ps ≡ commas ps
 unfolding commaed
 parted_commas [] = refl

@@ -7,7 +7,7 @@ use Rattle.std.proofs.lemmas.Fmt.{decimal_nonempty}
 use Rattle.std.proofs.lemmas.List.{append_assoc, append-nil, length_push, get_or_push}
 use Rattle.std.proofs.lemmas.Bool.{and_from}
 use Rattle.journal.specs.Entries.{InRange}
-use Rattle.journal.specs.Lines.{commaed, parted}
+use Rattle.journal.specs.Lines.{commaed}
 use Rattle.batch.specs.declared.records.OrderLine.{OrderLine}
 use Rattle.batch.specs.declared.records.OrderLine.TheVariants as line
 use Rattle.batch.specs.declared.items.Kind.{Kind}
@@ -30,7 +30,7 @@ use Rattle.batch.specs.Reading.{said, closes, ended, batch_of_any_length, Lawful
 use Rattle.batch.specs.Rules.{ask, order_in, said_by, room_for, seated, tested, judged}
 use Rattle.batch.specs.Tables.{seen_in}
 use Rattle.batch.specs.Texts.{ReadsBack}
-use Rattle.batch.proofs.Back.{item_fields, item_line, written, same_line, same_past}
+use Rattle.batch.proofs.Back.{parted, item_fields, item_line, written, same_line, same_past}
 use Rattle.batch.proofs.Digits.{decimal_at, natural_some}
 use Rattle.batch.proofs.Said.{said_ok, any_lines}
 use Rattle.batch.proofs.Signs.{cents_plain}

@@ -12,11 +12,6 @@ unfoldable pub commaed : List (List ℕ) → List ℕ
 commaed [] = []
 commaed (f ∷ fs) = 44 ∷ (f ++ commaed fs)
 
--- fields parted by commas
-abbrev pub parted : List (List ℕ) → List ℕ
-parted [] = []
-parted (f ∷ fs) = f ++ commaed fs
-
 abbrev pub void_mark : Bool → ℕ
 void_mark true = 1
 void_mark false = 0
