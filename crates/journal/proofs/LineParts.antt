@@ -1,5 +1,5 @@
 -- The pairs of a line one by one, and the line from its parts.
-use Rattle.std.proofs.Common.{◌≡◌, ℕ, zero, suc, ◌+◌, ◌-◌, ◌^◌, ◌<◌, ◌≤◌, min, Bool, cond, List, [], ◌∷◌, ◌++◌, length, drop, ℤ, Some, None, Ok, Err, decimal, Option, sym, refl, ap, ◌∙◌, append_assoc, add-one, arith, le-leb}
+use Rattle.std.proofs.Common.{◌≡◌, ℕ, zero, suc, ◌+◌, ◌-◌, ◌^◌, ◌<◌, ◌≤◌, min, Bool, cond, List, [], ◌∷◌, ◌++◌, length, drop, ℤ, Some, None, Ok, Err, decimal, Option, sym, refl, ap, subst, ◌∙◌, append_assoc, add-one, arith, le-leb}
 use borrow.Author.Tests.{lt-leb}
 use Rattle.std.specs.Option.{option_map}
 use Rattle.std.specs.List.{slice_get}
@@ -7,11 +7,12 @@ use Rattle.std.proofs.lemmas.List.{drop_all}
 use Rattle.journal.specs.Entries.{Posted}
 use Rattle.journal.specs.Readings.{id_of, pair_of}
 use Rattle.journal.specs.Lines.{commaed, pair_fields, entry_line, answer_of, line_over}
-use Rattle.journal.specs.Writing.{written, head_text, pairs_of, put_for, put_of}
+use Rattle.journal.specs.Writing.{written, state, Wrote, head_text, pairs_of, put_for, put_of}
+use Rattle.journal.specs.declared.line_buffer.LineBuffer.{LineBuffer}
 use Rattle.journal.specs.declared.entry.Pair.{Pair}
 use Rattle.journal.specs.declared.entry.PostingId.{PostingId}
 use Rattle.journal.specs.declared.lines.LineRefusal.TheVariants.{DoesNotFit}
-use Rattle.journal.proofs.Written.{written_append, then_written, commaed_append, place_after, written_front}
+use Rattle.journal.proofs.Written.{written_append, then_wrote, commaed_append, place_after, written_front}
 
 -- something is not nothing
 none_apart : {X : Type 0} (x : X) → Some x ≡ None → ⊥
@@ -74,15 +75,16 @@ whole k e =
     (append_assoc (decimal k) _ (commaed (pair_fields e.pairs)) ∙ ap (λ bs. decimal k ++ bs) (commaed_append _ (pair_fields e.pairs)))
 
 -- the head, the pairs and the line feed make the line
-pub line_from_parts : (o : Option Posted) (k : ℕ) (id : PostingId) (void : Bool) (hand cents : ℤ) (count : ℕ) (out : List ℕ) (s t u : ℕ × List ℕ)
+pub line_from_parts : (o : Option Posted) (k : ℕ) (id : PostingId) (void : Bool) (hand cents : ℤ) (count : ℕ) (out p : List ℕ) (s t u v : LineBuffer)
     → Some id ≡ option_map id_of o → Some void ≡ option_map (λ e. e.void) o → Some hand ≡ option_map (λ e. e.hand) o → Some count ≡ option_map (λ e. length e.pairs) o
-    → cents ≡ hand → s ≡ written (head_text k id void cents count) (0, out) → t ≡ written (commaed (pair_fields (pairs_of o))) s → u ≡ written (10 ∷ []) t
-    → (Some u.0, u.1) ≡ put_of k o out
-line_from_parts None k id void hand cents count out s t u i v h n same x y z = absurd (none_apart id i)
-line_from_parts (Some e) k id void hand cents count out s t u i v h n same x y z =
-    let head : s ≡ written (head_text k (id_of e) e.void e.hand (length e.pairs)) (0, out) = cc in
-    let all = then_written _ _ _ _ _ (then_written _ _ _ _ _ head y) z ∙ ap (λ bs. written bs (0, out)) (whole k e) in
-    ap (λ w. (Some w.0, w.1)) all
+    → cents ≡ hand → state s ≡ (0, out) → Wrote (head_text k id void cents count) s t → Wrote (commaed (pair_fields (pairs_of o))) t u → Wrote (10 ∷ []) u v → p ≡ v.out.now
+    → (Some v.at, p) ≡ put_of k o out
+line_from_parts None k id void hand cents count out p s t u v i w h n same start x y z back = absurd (none_apart id i)
+line_from_parts (Some e) k id void hand cents count out p s t u v i w h n same start x y z back =
+    let head : Wrote (head_text k (id_of e) e.void e.hand (length e.pairs)) s t = record { bytes = cc; lender = x.lender } in
+    let all : Wrote (entry_line k e) s v = subst (λ bs. Wrote bs s v) (whole k e) (then_wrote _ _ _ _ _ (then_wrote _ _ _ _ _ head y) z) in
+    let line : state v ≡ written (entry_line k e) (0, out) = all.bytes ∙ ap (written (entry_line k e)) start in
+    ap (λ bs. (Some v.at, bs)) back ∙ ap (λ w. (Some w.0, w.1)) line
 
 -- the place that a trial tells is the line's length, if that is in reach
 told : (line trial left : List ℕ) (n : ℕ) → (Some n, left) ≡ put_for line trial → n ≡ min (length line) (2 ^ 64 - 1)

@@ -1,17 +1,14 @@
--- Lists by place.
-use Rattle.std.proofs.Common.{◌≡◌, ℕ, zero, suc, List, [], ◌∷◌, map, Some, None, Option, refl, ap, ◌∙◌, Bor}
+-- Lists by place, and the first pair of an account.
+use Rattle.std.proofs.Common.{◌≡◌, ℕ, Bool, true, false, List, [], ◌∷◌, ℤ, Some, Option, cond, refl, eqb}
 use Rattle.std.specs.Option.{option_map}
-use Rattle.std.specs.List.{slice_get}
+use Rattle.std.specs.List.{find}
+use Rattle.journal.specs.Readings.{given_in}
+use Rattle.journal.specs.declared.entry.Pair.{Pair}
 
-pub nth_map : {X Y : Type 0} (f : X → Y) (xs : List X) (k : ℕ) → option_map f (slice_get xs k) ≡ slice_get (map f xs) k
-nth_map f [] k = refl
-nth_map f (x ∷ xs) zero = refl
-nth_map f (x ∷ xs) (suc k) = nth_map f xs k
-
-mapped_now : {X Y : Type 0} (f : X → Y) (r : Option (Bor X)) → option_map (λ x. f x.now) r ≡ option_map f (option_map (λ x. x.now) r)
-mapped_now f None = refl
-mapped_now f (Some x) = refl
-
--- a lookup that lends an element tells the element of the mapped list
-pub lent_nth : {X Y : Type 0} (f : X → Y) (xs : List X) (k : ℕ) (r : Option (Bor X)) → option_map (λ x. x.now) r ≡ slice_get xs k → option_map (λ x. f x.now) r ≡ slice_get (map f xs) k
-lent_nth f xs k r e = mapped_now f r ∙ ap (option_map f) e ∙ nth_map f xs k
+-- the value that pairs give an account is that of the first pair with it
+pub given_in-find : (ps : List Pair) (a : ℕ) → given_in ps a ≡ option_map (λ p. p.value) (find (λ p. eqb p.account a) ps)
+given_in-find [] a = refl
+given_in-find (p ∷ ps) a = go (eqb p.account a) (given_in ps a) (find (λ q. eqb q.account a) ps) (given_in-find ps a) where
+  go : (b : Bool) (g : Option ℤ) (f : Option Pair) → g ≡ option_map (λ q. q.value) f → cond b (Some p.value) g ≡ option_map (λ q. q.value) (cond b (Some p) f)
+  go true g f e = refl
+  go false g f e = e

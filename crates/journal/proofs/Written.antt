@@ -1,11 +1,10 @@
 -- What is written piece by piece is written as a whole, and lies in front of what was there.
-use Rattle.std.proofs.Common.{◌≡◌, ℕ, ◌+◌, ◌-◌, ◌^◌, ◌≤◌, min, true, List, [], ◌∷◌, ◌++◌, length, drop, set, ℤ, pos, negsuc, nat_abs, decimal, sym, refl, ap, ◌∙◌, append_assoc, append-nil, arith, length-append}
-use lib.Signed.{lt_z}
-use Rattle.std.specs.Fmt.{signed_decimal}
-use Rattle.std.proofs.lemmas.List.{set-append_right}
-use Rattle.std.proofs.lemmas.Int.{ints}
-use Rattle.journal.specs.Lines.{commaed}
-use Rattle.journal.specs.Writing.{written}
+use Rattle.std.proofs.Common.{◌≡◌, ℕ, ◌+◌, ◌-◌, ◌^◌, ◌≤◌, min, Bool, true, false, List, [], ◌∷◌, ◌++◌, length, drop, set, sym, refl, ap, subst, ◌∙◌, append_assoc, append-nil, arith, length-append, get_or, add-one, drop-cons, ◌<◌}
+use mir.Val.{bool_byte}
+use Rattle.std.proofs.lemmas.List.{set-append_right, drop_all}
+use Rattle.journal.specs.Lines.{commaed, void_mark}
+use Rattle.journal.specs.Writing.{written, state, Wrote}
+use Rattle.journal.specs.declared.line_buffer.LineBuffer.{LineBuffer}
 
 -- one byte is a store, which past the end changes nothing
 pub written_one : (at next b : ℕ) (o p : List ℕ) → next ≡ min (at + 1) (2 ^ 64 - 1) → p ≡ set o at b → (next, p) ≡ written (b ∷ []) (at, o)
@@ -18,9 +17,22 @@ unfolding written
 written_append [] ys s = refl
 written_append (x ∷ xs) ys s = written_append xs ys _
 
--- the same, from one state to the next
-pub then_written : (s t u : ℕ × List ℕ) (xs ys : List ℕ) → t ≡ written xs s → u ≡ written ys t → u ≡ written (xs ++ ys) s
-then_written s t u xs ys e f = f ∙ ap (written ys) e ∙ written_append xs ys s
+-- a byte written is a byte less to write
+pub written_next : (bs : List ℕ) (i : ℕ) (s t : ℕ × List ℕ) → i < length bs → t ≡ written (get_or bs i 0 ∷ []) s → written (drop (i + 1) bs) t ≡ written (drop i bs) s
+written_next bs i s t h e =
+    ap (written (drop (i + 1) bs)) e ∙ written_append (get_or bs i 0 ∷ []) (drop (i + 1) bs) s ∙ ap (λ r. written r s) (sym (rw add-one (drop-cons bs i 0 h)))
+
+-- after all bytes none is left
+pub written_none : (bs : List ℕ) (i : ℕ) (s : ℕ × List ℕ) → length bs ≤ i → written (drop i bs) s ≡ s
+unfolding written
+written_none bs i s h = ap (λ r. written r s) (drop_all i bs h)
+
+-- the same of two writes in turn
+pub then_wrote : (s t u : LineBuffer) (xs ys : List ℕ) → Wrote xs s t → Wrote ys t u → Wrote (xs ++ ys) s u
+then_wrote s t u xs ys e f = record {
+  bytes = f.bytes ∙ ap (written ys) e.bytes ∙ written_append xs ys (state s);
+  lender = f.lender ∙ e.lender;
+}
 
 -- the fields one by one
 pub commaed_none : commaed [] ≡ []
@@ -37,19 +49,19 @@ unfolding commaed
 commaed_append [] gs = refl
 commaed_append (f ∷ fs) gs = ap (λ r. 44 ∷ r) (append_assoc f (commaed fs) (commaed gs) ∙ ap (λ r. f ++ r) (commaed_append fs gs))
 
--- the same, from one state to the next
-pub then_fields : (s t u : ℕ × List ℕ) (fs gs : List (List ℕ)) → t ≡ written (commaed fs) s → u ≡ written (commaed gs) t → u ≡ written (commaed (fs ++ gs)) s
-then_fields s t u fs gs e f = then_written s t u _ _ e f ∙ ap (λ xs. written xs s) (commaed_append fs gs)
+-- the same of two writes in turn
+pub then_fields : (s t u : LineBuffer) (fs gs : List (List ℕ)) → Wrote (commaed fs) s t → Wrote (commaed gs) t u → Wrote (commaed (fs ++ gs)) s u
+then_fields s t u fs gs e f = subst (λ bs. Wrote bs s u) (commaed_append fs gs) (then_wrote s t u _ _ e f)
 
 -- a comma and a number are a field
-pub one_field : (s t u : ℕ × List ℕ) (f : List ℕ) → t ≡ written (44 ∷ []) s → u ≡ written f t → u ≡ written (commaed (f ∷ [])) s
+pub one_field : (s t u : LineBuffer) (f : List ℕ) → Wrote (44 ∷ []) s t → Wrote f t u → Wrote (commaed (f ∷ [])) s u
 unfolding commaed
-one_field s t u f e h = then_written s t u (44 ∷ []) f e h ∙ ap (λ xs. written (44 ∷ xs) s) (sym (append-nil f))
+one_field s t u f e h = subst (λ bs. Wrote (44 ∷ bs) s u) (sym (append-nil f)) (then_wrote s t u (44 ∷ []) f e h)
 
--- a number below 0 is a minus and its size
-pub signed_below : (z : ℤ) → lt_z z (pos 0) ≡ true → 45 ∷ decimal (nat_abs z) ≡ signed_decimal z
-signed_below (pos n) h = absurd (grind (arith, ints))
-signed_below (negsuc n) h = refl
+-- the byte of a mark is its number
+pub void_byte : (b : Bool) → bool_byte b ≡ void_mark b
+void_byte true = refl
+void_byte false = refl
 
 -- the place after the last byte
 pub place_after : (bs o : List ℕ) (at : ℕ) → at ≤ 2 ^ 64 - 1 → (written bs (at, o)).0 ≡ min (at + length bs) (2 ^ 64 - 1)

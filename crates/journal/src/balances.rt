@@ -8,29 +8,26 @@ use crate::journals::Reading;
 pub const ACCOUNTS: usize = 64;
 
 // The value that an entry gives an account, and the place of that entry.
-#[derive(Clone, Copy)]
+#[derive(Clone, Copy, Debug, PartialEq, Eq)]
 pub struct Given {
     pub place: usize,
     pub value: i64,
 }
 
-// Why no balance was told, in the order of the tests.
-#[derive(Clone, Copy, PartialEq, Eq)]
+// Why no balance was told, in the order of the tests, each with its number.
+#[derive(Clone, Copy, Debug, PartialEq, Eq)]
 pub enum BalanceRefusal {
     // The account is above 63.
-    NoSuchAccount,
+    NoSuchAccount = 41,
     // There are fewer entries than were to be counted.
-    PastTheEnd,
+    PastTheEnd = 42,
 }
 
-impl BalanceRefusal {
-    pub fn number(self) -> u8
-        ensures { result ≡ balance_number self }
-    {
-        match self {
-            BalanceRefusal::NoSuchAccount => 41,
-            BalanceRefusal::PastTheEnd => 42,
-        }
+impl From<BalanceRefusal> for u8 {
+    ghost from_gives = { λ refusal number. number ≡ balance_number refusal };
+
+    fn from(refusal: BalanceRefusal) -> u8 {
+        refusal as u8
     }
 }
 
@@ -58,14 +55,12 @@ pub fn balance<R: Reading>(
 ) -> Result<i64, BalanceRefusal>
     ensures { result ≡ balanced (R.Reading.entries journal.now) openings.now account k }
 {
-    if account as usize >= ACCOUNTS {
+    if usize::from(account) >= ACCOUNTS {
         return Err(BalanceRefusal::NoSuchAccount);
     }
     if k > journal.length() {
         return Err(BalanceRefusal::PastTheEnd);
     }
-    match last_given(journal, account, k) {
-        Some(given) => Ok(given.value),
-        None => Ok(openings[account as usize]),
-    }
+    let opening = openings[usize::from(account)];
+    Ok(last_given(journal, account, k).map_or(opening, |given| given.value))
 }

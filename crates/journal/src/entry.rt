@@ -1,7 +1,7 @@
 // The entry: what a posting leaves in the journal.
 ghost use Rattle.std.specs.Prelude.{◌≡◌, ◌≤◌, length, Decides};
 ghost use Rattle.journal.specs.Entries.{posted, in_range, fits, rises, is_entry, IsEntry};
-ghost use Rattle.journal.specs.Readings.{given_in};
+ghost use Rattle.journal.specs.Readings.{id_of, given_in};
 
 // The most pairs that an entry can have.
 pub const MAX_PAIRS: usize = 16;
@@ -17,7 +17,7 @@ pub const LAST_ACCOUNT: u8 = 63;
 pub const MOST_CENTS: u64 = 1_000_000_000_000_000;
 
 // An account, from 0 to 63, and the value in cents that it is given.
-#[derive(Clone, Copy)]
+#[derive(Clone, Copy, Debug, PartialEq, Eq)]
 pub struct Pair {
     pub account: u8,
     pub value: i64,
@@ -25,14 +25,14 @@ pub struct Pair {
 
 // Which posting. A house, from 0 to 15, is a client whose money is kept: to the journal it is a process, which runs
 // transactions one after the other. A posting is one such transaction; a house's postings are numbered from 1.
-#[derive(Clone, Copy, PartialEq, Eq)]
+#[derive(Clone, Copy, Debug, PartialEq, Eq)]
 pub struct PostingId {
     pub house: u8,
     pub number: u32,
 }
 
 // A record of the host's memory. It may hold what is no entry, which no journal files.
-#[derive(Clone, Copy)]
+#[derive(Clone, Copy, Debug, PartialEq, Eq)]
 pub struct Entry {
     pub house: u8,
     pub number: u32,
@@ -45,37 +45,35 @@ pub struct Entry {
     pub pairs: [Pair; MAX_PAIRS],
 }
 
-// The value in the pair with this account.
-fn value_in(pairs: &[Pair], account: u8) -> Option<i64>
-    ensures { result ≡ given_in pairs.now account }
-{
-    for pair in pairs {
-        if pair.account == account {
-            return Some(pair.value);
+impl Entry {
+    // Which posting it is of.
+    pub fn id(&self) -> PostingId
+        ensures { result ≡ id_of (posted self.now) }
+    {
+        PostingId {
+            house: self.house,
+            number: self.number,
         }
     }
-    None
-}
 
-impl Entry {
     // The pairs that count.
     pub fn counted_pairs(&self) -> &[Pair]
         ensures value { result.now ≡ (posted self.now).pairs }
         ensures few { length result.now ≤ 16 }
     {
-        let count = self.count as usize;
-        if count <= MAX_PAIRS {
-            &self.pairs[..count]
-        } else {
-            &self.pairs
-        }
+        self.pairs
+            .get(..usize::from(self.count))
+            .unwrap_or(&self.pairs)
     }
 
     // The value that it gives the account.
     pub fn value_for(&self, account: u8) -> Option<i64>
         ensures { result ≡ given_in (posted self.now).pairs account }
     {
-        value_in(self.counted_pairs(), account)
+        self.counted_pairs()
+            .iter()
+            .find(|pair| pair.account == account)
+            .map(|pair| pair.value)
     }
 }
 
@@ -109,10 +107,9 @@ fn pairs_rise(pairs: &[Pair]) -> bool
 fn passes(e: &Entry) -> bool
     ensures { result ≡ is_entry e.now }
 {
-    if e.count as usize > MAX_PAIRS {
+    let Some(pairs) = e.pairs.get(..usize::from(e.count)) else {
         return false;
-    }
-    let pairs = &e.pairs[..e.count as usize];
+    };
     e.house <= LAST_HOUSE
         && 1 <= e.number
         && e.number <= LAST_NUMBER

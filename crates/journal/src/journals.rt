@@ -3,8 +3,9 @@ ghost use Rattle.std.specs.Prelude.{◌≡◌, ℕ, ◌≤◌, Bool, List, lengt
 ghost use Rattle.journal.specs.Entries.{Posted};
 ghost use Rattle.journal.specs.Readings.{id_at, void_at, hand_at, count_at, pair_in, given_at};
 ghost use Rattle.journal.specs.Filing.{filing, filed, filing_number};
+ghost use Rattle.journal.specs.declared.journals.FilingRefusal.TheVariants.{Full};
 
-use crate::entry::{Entry, Pair, PostingId};
+use crate::entry::{Entry, Pair, PostingId, is_entry};
 
 // The most entries that a journal can hold.
 pub const MAX_ENTRIES: usize = 4096;
@@ -51,31 +52,52 @@ pub trait Reading {
         ensures { result ≡ given_at (entries self.now) k account };
 }
 
-// Why an entry was not filed, in the order of the tests. The journal is then as it was.
-#[derive(Clone, Copy, PartialEq, Eq)]
+// Why an entry was not filed, in the order of the tests, each with its number. The journal is then as it was.
+#[derive(Clone, Copy, Debug, PartialEq, Eq)]
 pub enum FilingRefusal {
     // The record is no entry.
-    NotAnEntry,
+    NotAnEntry = 61,
     // The place is not the journal's length.
-    NotAtTheEnd,
+    NotAtTheEnd = 62,
     // The journal has as many entries as its size.
-    Full,
+    Full = 63,
 }
 
-impl FilingRefusal {
-    pub fn number(self) -> u8
-        ensures { result ≡ filing_number self }
-    {
-        match self {
-            FilingRefusal::NotAnEntry => 61,
-            FilingRefusal::NotAtTheEnd => 62,
-            FilingRefusal::Full => 63,
-        }
+impl From<FilingRefusal> for u8 {
+    ghost from_gives = { λ refusal number. number ≡ filing_number refusal };
+
+    fn from(refusal: FilingRefusal) -> u8 {
+        refusal as u8
+    }
+}
+
+// A journal over a roll is full where the roll is.
+impl From<roll::Full> for FilingRefusal {
+    ghost from_gives = { λ full refusal. refusal ≡ Full };
+
+    fn from(_full: roll::Full) -> FilingRefusal {
+        FilingRefusal::Full
     }
 }
 
 // A journal: a reading part that can also file an entry.
 pub trait Journal: Reading {
+    // Whether this entry can be filed at this place, or the first of the reasons why not.
+    fn can_file(&self, place: usize, e: &Entry) -> Result<(), FilingRefusal>
+        ensures { result ≡ filing e.now place (length (Self.Reading.entries self.now)) (Self.Reading.size self.now) }
+    {
+        if !is_entry(e) {
+            return Err(FilingRefusal::NotAnEntry);
+        }
+        if place != self.length() {
+            return Err(FilingRefusal::NotAtTheEnd);
+        }
+        if place >= self.size() {
+            return Err(FilingRefusal::Full);
+        }
+        Ok(())
+    }
+
     // Files exactly this entry at the end, which the place has to name.
     fn file(&mut self, place: usize, e: &Entry) -> Result<(), FilingRefusal>
         ensures answer { result ≡ filing e.now place (length (Self.Reading.entries self.old)) (Self.Reading.size self.old) }

@@ -1,23 +1,25 @@
 // A roll: a bounded list that only grows, over cells that its maker lends it.
 #![tactic(auto)]
 
-ghost use Rattle.std.specs.Prelude.{◌≡◌, [], ◌∷◌, ◌++◌, length, drop, is_ok, if◌then◌else◌, slice_set};
+ghost use Rattle.std.specs.Prelude.{◌≡◌, ◌≤◌, [], ◌∷◌, ◌++◌, length, drop, is_ok, if◌then◌else◌, slice_set};
 ghost use Rattle.std.specs.Option.{option_map};
 ghost use Rattle.std.specs.List.{slice_get};
-ghost use Rattle.roll.specs.Rolls.{cells_of, items, unused, capacity_of, pushing};
 
 // Every cell is used, so nothing was pushed.
-#[derive(Clone, Copy)]
+#[derive(Clone, Copy, Debug, PartialEq, Eq)]
 pub struct Full;
 
-// The first `used` cells hold the list. Every value has a meaning: more used cells than there are count as all of them.
+// The first `used` cells hold the list.
 #[derive(Drop)]
 pub struct Roll<'a, T> {
     cells: &'a mut [T],
     used: usize,
+    ghost within: { used ≤ length cells.now },
 }
 
 impl<'a, T: Copy> Roll<'a, T> {
+    ghost use Rattle.roll.specs.Rolls.{cells_of, items, unused, capacity_of, pushing};
+
     // An empty roll over these cells.
     pub fn new(cells: &'a mut [T]) -> Self
         ensures items { items result ≡ [] }
@@ -32,7 +34,7 @@ impl<'a, T: Copy> Roll<'a, T> {
     pub fn len(&self) -> usize
         ensures { result ≡ length (items self.now) }
     {
-        self.used.min(self.capacity())
+        self.as_slice().len()
     }
 
     // How many items it can hold in all.
@@ -81,18 +83,13 @@ impl<'a, T: Copy> Roll<'a, T> {
     pub fn as_slice(&self) -> &[T]
         ensures { result.now ≡ items self.now }
     {
-        let used = self.len();
-        &self.cells[..used]
+        &self.cells[..self.used]
     }
 
     // The item at this place, counted from 0, or none.
     pub fn get(&self, place: usize) -> Option<&T>
         ensures { option_map (λ x. x.now) result ≡ slice_get (items self.now) place }
     {
-        if place < self.used {
-            self.cells.get(place)
-        } else {
-            None
-        }
+        self.as_slice().get(place)
     }
 }

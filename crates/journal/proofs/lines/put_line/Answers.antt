@@ -6,6 +6,6 @@ use Rattle.journal.proofs.lines.put_line.Goals as goal
 pub returns : goal.returns
 returns g c =
     let fits : SFits w64 c.in_ok-hand.hand = search rules in
-    line_from_parts _ _ _ _ _ _ _ _ _ _ _
+    line_from_parts _ _ _ _ _ _ _ _ _ _ _ _ _
     c.in_ok-id.ensures c.in_ok-void.ensures c.in_ok-hand.ensures c.in_ok-count.ensures
-    (to_z-of_z w64 c.in_ok-hand.hand fits) c.put_head-at.ensures c.put_pairs-at.ensures c.put.ensures
+    (to_z-of_z w64 c.in_ok-hand.hand fits) c.new-line.ensures.start c.put_head.ensures c.put_pairs.ensures c.put.ensures (search rules)

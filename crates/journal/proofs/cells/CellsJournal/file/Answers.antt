@@ -1,39 +1,25 @@
-use Rattle.std.proofs.Common.{◌≡◌, ℕ, ◌<◌, min, List, map, length, take, set, refl, ap, ◌∙◌, arith}
-use Rattle.roll.specs.Rolls.{items, cells_of}
-use Rattle.roll.proofs.Pushes.{had_room, was_full}
-use Rattle.journal.specs.Entries.{posted}
-use Rattle.journal.specs.Stores.{cell_entries, cell_size}
-use Rattle.journal.specs.declared.entry.Entry.{Entry}
-use Rattle.journal.proofs.Filed.{filing_ok, filing_full, length_records, records_push}
+use Rattle.std.proofs.Common.{ℕ, length, set, sym, ap, ◌∙◌, arith, rules}
+use Rattle.roll.specs.Rolls.{items, cells_of, capacity_of}
+use Rattle.roll.proofs.Pushes.{was_full}
+use Rattle.journal.proofs.Filed.{room_to_file, records_push}
 use Rattle.journal.proofs.cells.CellsJournal.file.Goals as goal
 
-pub returns-in-Ok : goal.returns-in-Ok
-returns-in-Ok c =
+-- there was room, so the push is not refused
+pub returns-in_err-push-clause-answer : goal.returns-in_err-push-clause-answer
+returns-in_err-push-clause-answer c =
     let s = c.args.self.now in
-    let r = s.roll in
-    let xs = items r in
-    let long = length_records xs in
-    let room = had_room _ _ _ c.in-Ok.ensures.answer refl in
-    let short : length xs < 4096 = omega (arith, c.length-length.ensures) in
-    let all : length xs ≡ length (map posted (take 4096 xs)) = omega arith in
-    record {
-      answer = filing_ok c.args.e.now c.args.place (length (cell_entries s)) (cell_size s) c.if-not-is_entry.ensures.test (omega (arith, c.length-length.ensures)) (omega arith);
-      entries = records_push xs _ c.args.e.now short c.in-Ok.ensures.items;
-      size = ap (λ (n : ℕ). min n 4096) c.in-Ok.ensures.capacity;
-      cells = c.in-Ok.ensures.cells ∙ ap (λ (n : ℕ). set (cells_of r) n c.args.e.now) all;
-      lender = c.in-Ok.ensures.lender;
-    }
+    let room = room_to_file s c.args.e.now c.args.place (search rules) in
+    let full = was_full (length (items s.roll)) (capacity_of s.roll) _ (sym c.in_err-push.was ∙ c.push.ensures.answer) in
+    absurd (omega arith)
 
-pub returns-in-Err : goal.returns-in-Err
-returns-in-Err c =
+pub returns-clause-entries : goal.returns-clause-entries
+returns-clause-entries c =
     let s = c.args.self.now in
-    let xs = items s.roll in
-    let long = length_records xs in
-    let full = was_full _ _ _ c.in-Err.ensures.answer refl in
-    record {
-      answer = filing_full c.args.e.now c.args.place (length (cell_entries s)) (cell_size s) c.if-not-is_entry.ensures.test (omega (arith, c.length-length.ensures)) (omega arith);
-      entries = ap (λ (ys : List Entry). map posted (take 4096 ys)) c.in-Err.ensures.items;
-      size = ap (λ (n : ℕ). min n 4096) c.in-Err.ensures.capacity;
-      cells = c.in-Err.ensures.cells;
-      lender = c.in-Err.ensures.lender;
-    }
+    let room = room_to_file s c.args.e.now c.args.place (search rules) in
+    records_push (items s.roll) _ c.args.e.now room.below c.in_ok-push.ensures.items
+
+pub returns-clause-cells : goal.returns-clause-cells
+returns-clause-cells c =
+    let s = c.args.self.now in
+    let room = room_to_file s c.args.e.now c.args.place (search rules) in
+    c.in_ok-push.ensures.cells ∙ ap (λ (n : ℕ). set (cells_of s.roll) n c.args.e.now) room.all
