@@ -21,6 +21,10 @@ length_records xs = length-map (take 4096 xs) posted ∙ length-take 4096 xs
 has_room : (b : Bool) (p l s : ℕ) → Ok tt ≡ tested b p l s → l < s
 has_room b p l s h = grind (arith, nat_tests)
 
+-- what can be filed has room
+pub room_left : (e : Entry) (p l s : ℕ) → Ok tt ≡ filing e p l s → l < s
+room_left e = has_room (is_entry e)
+
 -- what can be filed in records has a free one, and the roll's items are the entries
 pub record HasRoom (c : Cells) : Type 0 where
   pub below : length (items c.roll) < 4096
@@ -29,7 +33,7 @@ pub record HasRoom (c : Cells) : Type 0 where
 
 pub room_to_file : (c : Cells) (e : Entry) (p : ℕ) → Ok tt ≡ filing e p (length (cell_entries c)) (cell_size c) → HasRoom c
 room_to_file c e p h =
-    let room = has_room (is_entry e) p (length (cell_entries c)) (cell_size c) h in
+    let room = room_left e p (length (cell_entries c)) (cell_size c) h in
     let long = length_records (items c.roll) in
     record { below = omega arith; free = omega arith; all = omega arith }
 

@@ -1,5 +1,5 @@
 // The first entries of another reading.
-ghost use Rattle.std.specs.Prelude.{◌≡◌, min, take};
+ghost use Rattle.std.specs.Prelude.{◌≡◌, ◌<◌, ◌≤◌, min, take, MatchOption};
 
 use journal::{Pair, PostingId, Reading};
 
@@ -8,6 +8,15 @@ use journal::{Pair, PostingId, Reading};
 pub struct FirstEntries<'a, R> {
     pub reading: &'a R,
     pub most: usize,
+}
+
+impl<'a, R: Reading> FirstEntries<'a, R> {
+    // The other reading, to ask it of an entry that is among the first.
+    fn keeping(&self, k: usize) -> Option<&'a R>
+        ensures { MatchOption result (self.now.most ≤ k) (λ r. (r.now ≡ self.now.reading.now) × (k < self.now.most)) }
+    {
+        (k < self.most).then_some(self.reading)
+    }
 }
 
 impl<'a, R: Reading> Reading for FirstEntries<'a, R> {
@@ -24,50 +33,26 @@ impl<'a, R: Reading> Reading for FirstEntries<'a, R> {
     }
 
     fn identity(&self, k: usize) -> Option<PostingId> {
-        if k < self.most {
-            self.reading.identity(k)
-        } else {
-            None
-        }
+        self.keeping(k)?.identity(k)
     }
 
     fn void(&self, k: usize) -> Option<bool> {
-        if k < self.most {
-            self.reading.void(k)
-        } else {
-            None
-        }
+        self.keeping(k)?.void(k)
     }
 
     fn hand(&self, k: usize) -> Option<i64> {
-        if k < self.most {
-            self.reading.hand(k)
-        } else {
-            None
-        }
+        self.keeping(k)?.hand(k)
     }
 
     fn count(&self, k: usize) -> Option<usize> {
-        if k < self.most {
-            self.reading.count(k)
-        } else {
-            None
-        }
+        self.keeping(k)?.count(k)
     }
 
     fn pair(&self, k: usize, j: usize) -> Option<Pair> {
-        if k < self.most {
-            self.reading.pair(k, j)
-        } else {
-            None
-        }
+        self.keeping(k)?.pair(k, j)
     }
 
     fn given(&self, k: usize, account: u8) -> Option<i64> {
-        if k < self.most {
-            self.reading.given(k, account)
-        } else {
-            None
-        }
+        self.keeping(k)?.given(k, account)
     }
 }

@@ -1,5 +1,5 @@
 // Entries that the tests file, and what a reading has to answer for them.
-use journal::{Entry, FilingRefusal, MAX_PAIRS, Pair, PostingId, Reading};
+use journal::{Entry, MAX_PAIRS, Pair, PostingId, Reading};
 use std::process::Abort;
 
 // The greatest value and hand, in cents.
@@ -122,7 +122,7 @@ const SIXTEEN: [Pair; MAX_PAIRS] = [
 ];
 
 // One change of a sample.
-#[derive(Clone, Copy)]
+#[derive(Clone, Copy, Debug)]
 pub(crate) enum Edit {
     Nothing,
     House(u8),
@@ -159,43 +159,41 @@ fn with_second(pair: Pair) -> Entry {
     Entry { pairs, ..SAMPLE }
 }
 
-// 0 where an entry was filed, else the number of the refusal.
-pub(crate) fn number_of(answer: Result<(), FilingRefusal>) -> u8 {
+// 0 where the call did what it was asked, else the number of the refusal.
+pub(crate) fn number_of<E: Into<u8>>(answer: Result<(), E>) -> u8 {
+    told(answer).0
+}
+
+// The number of the refusal or 0, and what was answered or 0.
+pub(crate) fn told<T: Default, E: Into<u8>>(answer: Result<T, E>) -> (u8, T) {
     match answer {
-        Ok(()) => 0,
-        Err(refusal) => refusal.number(),
+        Ok(value) => (0, value),
+        Err(refusal) => (refusal.into(), T::default()),
     }
 }
 
-fn parts_of_id(id: Option<PostingId>) -> Option<(u8, u32)> {
-    match id {
-        Some(id) => Some((id.house, id.number)),
-        None => None,
-    }
-}
-
-fn parts_of_pair(pair: Option<Pair>) -> Option<(u8, i64)> {
-    match pair {
-        Some(pair) => Some((pair.account, pair.value)),
-        None => None,
-    }
-}
-
-// The house and the number, the void mark, the hand and the count that a reading tells of entry `k`.
-type Head = (Option<(u8, u32)>, Option<bool>, Option<i64>, Option<usize>);
+// The posting, the void mark, the hand and the count that a reading tells of entry `k`.
+type Head = (Option<PostingId>, Option<bool>, Option<i64>, Option<usize>);
 
 fn head_of<R: Reading>(reading: &R, k: usize) -> Head {
-    let id = parts_of_id(reading.identity(k));
-    (id, reading.void(k), reading.hand(k), reading.count(k))
+    (
+        reading.identity(k),
+        reading.void(k),
+        reading.hand(k),
+        reading.count(k),
+    )
 }
 
 // Every question about entry `k` has this entry's answer.
 pub(crate) fn reads_back<R: Reading>(rt: &impl Abort, reading: &R, k: usize, e: &Entry) {
     let pairs = e.counted_pairs();
-    let id = Some((e.house, e.number));
+    let id = PostingId {
+        house: e.house,
+        number: e.number,
+    };
     assert_eq!(rt;
         head_of(reading, k),
-        (id, Some(e.void), Some(e.hand), Some(pairs.len()))
+        (Some(id), Some(e.void), Some(e.hand), Some(pairs.len()))
     );
     reads_pairs(rt, reading, k, pairs);
 }
@@ -206,21 +204,12 @@ pub(crate) fn reads_none<R: Reading>(rt: &impl Abort, reading: &R, k: usize) {
     reads_pairs(rt, reading, k, &[]);
 }
 
-// The value in the pair with this account.
-fn value_in(pairs: &[Pair], account: u8) -> Option<i64> {
-    for pair in pairs {
-        if pair.account == account {
-            return Some(pair.value);
-        }
-    }
-    None
-}
-
 // Entry `k` has these pairs and no others: there is none at a later place or for another account.
 fn reads_pairs<R: Reading>(rt: &impl Abort, reading: &R, k: usize, pairs: &[Pair]) {
     for n in 0..=255u8 {
-        let pair = parts_of_pair(reading.pair(k, n as usize));
-        let expected = parts_of_pair(pairs.get(n as usize).copied());
-        assert_eq!(rt; (pair, reading.given(k, n)), (expected, value_in(pairs, n)));
+        let pair = pairs.get(usize::from(n)).copied();
+        let with_account = pairs.iter().find(|pair| pair.account == n);
+        assert_eq!(rt; reading.pair(k, usize::from(n)), pair);
+        assert_eq!(rt; reading.given(k, n), with_account.map(|pair| pair.value));
     }
 }

@@ -1,8 +1,9 @@
 // Balances, at the edges of accounts and of the entries that are counted.
 use crate::first_entries::FirstEntries;
 use crate::heap::HeapJournal;
-use crate::samples::{Edit, edited, number_of};
-use journal::{Given, Journal, Reading, balance, last_given};
+use crate::samples::{Edit, edited, number_of, told};
+use journal::{Journal, Reading, balance, last_given};
+use std::array;
 use std::test::Fail;
 
 // Account 5 is given 7, then nothing by a void entry, then 7 again; account 63 is given -1, and -9 by the last entry.
@@ -31,25 +32,11 @@ static BALANCES: [(u8, usize, u8, i64, Option<usize>); 17] = [
 
 // Each account opens with ten times its number.
 fn openings() -> [i64; 64] {
-    let mut openings = [0; 64];
-    for account in 0..64u8 {
-        openings[account as usize] = 10 * account as i64;
-    }
-    openings
+    array::from_fn(|account| 10 * account as i64)
 }
 
 fn balance_told<R: Reading>(reading: &R, account: u8, k: usize) -> (u8, i64) {
-    match balance(reading, &openings(), account, k) {
-        Ok(value) => (0, value),
-        Err(refusal) => (refusal.number(), 0),
-    }
-}
-
-fn place_of(given: Option<Given>) -> Option<usize> {
-    match given {
-        Some(given) => Some(given.place),
-        None => None,
-    }
+    told(balance(reading, &openings(), account, k))
 }
 
 #[test]
@@ -60,7 +47,7 @@ fn balances(rt: HostRuntime) -> Result<(), Fail> {
     }
     for row in &BALANCES {
         let (account, k, refusal, value, place) = *row;
-        let given = place_of(last_given(&journal, account, k));
+        let given = last_given(&journal, account, k).map(|given| given.place);
         assert_eq!(rt;
             (balance_told(&journal, account, k), given),
             ((refusal, value), place)

@@ -102,7 +102,7 @@ fn file_four(rt: &impl Abort, bytes: &mut [u8]) {
 fn told(bytes: &[u8]) -> (u8, usize) {
     match check_book(bytes) {
         Ok(()) => (0, 0),
-        Err(refusal) => (refusal.number(), refusal.leaf()),
+        Err(refusal) => (refusal.into(), refusal.leaf()),
     }
 }
 
@@ -113,8 +113,8 @@ fn opened(bytes: &[u8]) -> (usize, usize) {
 }
 
 fn put(bytes: &mut [u8], at: usize, byte: u8) {
-    if at < bytes.len() {
-        bytes[at] = byte;
+    if let Some(old) = bytes.get_mut(at) {
+        *old = byte;
     }
 }
 

@@ -166,10 +166,7 @@ fn full_leaves(rt: HostRuntime) -> Result<(), Fail> {
 
 // The length of the last line of 4,096, or the number of its refusal.
 fn last_line<R: Reading>(reading: &R, out: &mut [u8]) -> usize {
-    match entry_line(reading, 4095, out) {
-        Ok(length) => length,
-        Err(refusal) => refusal.number() as usize,
-    }
+    entry_line(reading, 4095, out).unwrap_or_else(|refusal| usize::from(u8::from(refusal)))
 }
 
 #[test]

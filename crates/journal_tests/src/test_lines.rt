@@ -1,7 +1,7 @@
 // The lines of entries, and the room that they need.
 use crate::first_entries::FirstEntries;
 use crate::heap::HeapJournal;
-use crate::samples::{Edit, MOST, edited, number_of};
+use crate::samples::{Edit, MOST, edited, number_of, told};
 use journal::{Journal, Reading, entry_line};
 use std::process::Abort;
 use std::test::Fail;
@@ -18,13 +18,6 @@ static LINES: [(Edit, &str); 6] = [
         "5,15,4096,0,-1000000000000000,16,48,-1000000000000000,49,-1000000000000000,50,-1000000000000000,51,-1000000000000000,52,-1000000000000000,53,-1000000000000000,54,-1000000000000000,55,-1000000000000000,56,-1000000000000000,57,-1000000000000000,58,-1000000000000000,59,-1000000000000000,60,-1000000000000000,61,-1000000000000000,62,-1000000000000000,63,-1000000000000000\n",
     ),
 ];
-
-fn line_told<R: Reading>(reading: &R, k: usize, out: &mut [u8]) -> (u8, usize) {
-    match entry_line(reading, k, out) {
-        Ok(length) => (0, length),
-        Err(refusal) => (refusal.number(), 0),
-    }
-}
 
 // The line, and then bytes as they were.
 fn begins_with(rt: &impl Abort, out: &[u8], line: &[u8]) {
@@ -45,7 +38,7 @@ fn writes<R: Reading>(
 ) {
     assert!(rt; room <= out.len());
     assert_eq!(rt;
-        line_told(reading, k, &mut out[0..room]),
+        told(entry_line(reading, k, &mut out[0..room])),
         (refusal, line.len())
     );
     begins_with(rt, out, line);

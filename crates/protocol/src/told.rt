@@ -3,7 +3,7 @@
 // An open house: the number of its posting, its help date, 0 for none, and how many rounds of its keeper on the
 // posting have failed.
 // All are 0 for a house that is closed.
-#[derive(Clone, Copy, PartialEq, Eq)]
+#[derive(Clone, Copy, Debug, PartialEq, Eq)]
 pub struct HouseTold {
     pub number: u32,
     pub date: u32,
@@ -11,7 +11,7 @@ pub struct HouseTold {
 }
 
 // What a run of turns did: how many turns were taken, and how many entries were filed.
-#[derive(Clone, Copy, PartialEq, Eq)]
+#[derive(Clone, Copy, Debug, PartialEq, Eq)]
 pub struct RunTold {
     pub turns: usize,
     pub filed: usize,
