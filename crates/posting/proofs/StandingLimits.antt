@@ -24,8 +24,9 @@ good_parts o h =
     let c = and_parts (in_range o.floor) (leb o.times 4096) b.1 in
     record { from = leb-true _ _ a.0; to = leb-true _ _ b.0; floor = leb-true _ _ c.0; times = leb-true _ _ c.1 }
 
-order_kept : (o : StandingOrder) (line : ℕ) (hand : ℤ) → Good o → InRange hand → OrderKept (line_order o line hand)
-order_kept o line hand good h =
+pub order_kept : (o : StandingOrder) (line : ℕ) (hand : ℤ) → good_order o ≡ true → InRange hand → OrderKept (line_order o line hand)
+order_kept o line hand e h =
+    let good = good_parts o e in
     cond_both (eqb line 0) (Read o.from) _ OrderKept (λ e. good.from)
     (λ e. cond_both (eqb line 1) (cond (le_z hand o.floor) Done (Write o.from o.floor)) _ OrderKept
     (λ e. cond_both (le_z hand o.floor) Done (Write o.from o.floor) OrderKept (λ e. tt) (λ e. (good.from, good.floor)))
@@ -58,7 +59,7 @@ standing_limits os few good = limits_outside _ record {
   absent = λ house past. ap (λ (o : StandingOrder). o.times) (get_or_past os house _ past);
   some = omega arith;
   short = omega arith;
-  orders = λ house number line hand e. order_kept (order_at os house) line hand (good_parts (order_at os house) (good house)) (asked_hand (standing os) house number line hand e);
+  orders = λ house number line hand e. order_kept (order_at os house) line hand (good house) (asked_hand (standing os) house number line hand e);
   hands = λ house number line hand value e in-range. hand_kept line hand value (leb-true _ _ in-range);
   unread = λ house number line hand value e. unread (order_at os house) line hand value e;
 }

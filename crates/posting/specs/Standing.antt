@@ -1,5 +1,5 @@
 -- Standing orders: one record for each house. When the balance of `from` is above the floor, what is above it moves to `to`.
-use Rattle.std.specs.Prelude.{ℕ, ◌+◌, Bool, cond, ◌&&◌, List, [], ◌∷◌, length, ℤ, pos, ◌+ℤ◌, ◌-ℤ◌, is_ok, Some, None, Ok, Err, Option, Result, ◌==◌, int_le, nat_le, slice_index_or}
+use Rattle.std.specs.Prelude.{ℕ, Bool, cond, ◌&&◌, not, List, [], length, position, ℤ, pos, ◌+ℤ◌, ◌-ℤ◌, is_ok, Some, None, Ok, Err, Option, Result, ◌==◌, int_le, nat_le, slice_index_or}
 use Rattle.journal.specs.Entries.{in_range}
 use Rattle.posting.specs.Sources.{Meaning, void_outside}
 use Rattle.posting.specs.declared.order.Order.{Order}
@@ -12,10 +12,9 @@ use Rattle.posting.specs.declared.standing_order.StandingRefusal.TheVariants.{No
 abbrev pub good_order : StandingOrder → Bool
 good_order o = nat_le o.from 63 && (nat_le o.to 63 && (in_range o.floor && nat_le o.times 4096))
 
--- the first bad record, where the first of the list counts as k
-abbrev pub first_bad : ℕ → List StandingOrder → Option ℕ
-first_bad k [] = None
-first_bad k (o ∷ os) = cond (good_order o) (first_bad (k + 1) os) (Some k)
+-- the first bad record, counted from 0
+abbrev pub first_bad : List StandingOrder → Option ℕ
+first_bad os = position (λ o. not (good_order o)) os
 
 abbrev pub standing_number : StandingRefusal → ℕ
 standing_number NotOneToSixteen = 71
@@ -32,7 +31,7 @@ refused_at (Some k) = Err (BadRecord k)
 
 -- what the check answers: 71 before 72
 abbrev pub orders_checked : List StandingOrder → Result (Unit {0}) StandingRefusal
-orders_checked os = cond (nat_le 1 (length os) && nat_le (length os) 16) (refused_at (first_bad 0 os)) (Err NotOneToSixteen)
+orders_checked os = cond (nat_le 1 (length os) && nat_le (length os) 16) (refused_at (first_bad os)) (Err NotOneToSixteen)
 
 -- records that the check refuses make a source without houses
 abbrev pub orders_kept : List StandingOrder → List StandingOrder

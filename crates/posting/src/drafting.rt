@@ -5,7 +5,7 @@ ghost use Rattle.posting.specs.Alone.{balances_after, sought, noted, told, line_
 use crate::order::Order;
 use crate::pairs::{gather, no_pairs};
 use crate::sheet::{Draft, Progress, Sheet};
-use crate::sources::Source;
+use crate::sources::{Question, Source};
 use journal::{ACCOUNTS, PostingId, Reading, last_given};
 
 // The balance of an account after the first `k` entries, or after all where there are fewer.
@@ -41,16 +41,10 @@ fn find<R: Reading>(
 }
 
 // Takes up the hand that the source tells for a value that a line found.
-fn tell<S: Source>(
-    source: &S,
-    posting: PostingId,
-    line: usize,
-    value: i64,
-    sheet: &mut Sheet,
-) -> Progress
-    ensures { (result, sheet.new) ≡ told ((S.Source.meaning source.now).found posting.house posting.number line sheet.old.hand value) sheet.old }
+fn tell<S: Source>(source: &S, question: Question, value: i64, sheet: &mut Sheet) -> Progress
+    ensures { (result, sheet.new) ≡ told ((S.Source.meaning source.now).found question.posting.house question.posting.number question.line question.hand value) sheet.old }
 {
-    match source.found(posting.house, posting.number, line, sheet.hand, value) {
+    match source.found(question, value) {
         Some(hand) => {
             sheet.hand = hand;
             Progress::More
@@ -71,10 +65,15 @@ fn work_line<S: Source, R: Reading>(
 ) -> Progress
     ensures { (result, sheet.new) ≡ line_of (S.Source.meaning source.now) posting.house posting.number (balances_after (R.Reading.entries journal.now) openings.now k) line sheet.old }
 {
-    match source.order(posting.house, posting.number, line, sheet.hand) {
+    let question = Question {
+        posting,
+        line,
+        hand: sheet.hand,
+    };
+    match source.order(question) {
         Order::Read { account } => {
             let value = find(journal, openings, k, account, sheet);
-            tell(source, posting, line, value, sheet)
+            tell(source, question, value, sheet)
         }
         Order::Write { account, value } => {
             sheet.written[account as usize] = Some(value);

@@ -11,8 +11,8 @@ mod standing_orders;
 mod standing_source;
 
 pub use drafting::draft;
-pub use order::Order;
+pub use order::{Order, next_hand};
 pub use sheet::Draft;
-pub use sources::Source;
+pub use sources::{Question, Source};
 pub use standing_order::{StandingOrder, StandingRefusal, check_orders};
 pub use standing_orders::StandingOrders;

@@ -1,8 +1,17 @@
 // What every source of postings can be asked.
 ghost use Rattle.std.specs.Prelude.{◌≡◌, ◌≤◌};
-ghost use Rattle.posting.specs.Sources.{Meaning, Limits, OrderKept, HandKept};
+ghost use Rattle.posting.specs.Sources.{Meaning, asked, Limits, OrderKept, HandKept};
 
 use crate::order::Order;
+use journal::{PostingId, in_range};
+
+// What a source is asked about: a line of a posting, reached with this hand. Postings count from 1, lines from 0.
+#[derive(Clone, Copy, PartialEq, Eq)]
+pub struct Question {
+    pub posting: PostingId,
+    pub line: usize,
+    pub hand: i64,
+}
 
 // A source of postings. Its meaning is told by one record of functions, within the limits that `longest_posting` promises.
 // No question alters anything, and a question out of range is void.
@@ -27,13 +36,24 @@ pub trait Source {
         ensures value { result ≡ (meaning self.now).postings house }
         ensures few { result ≤ 4096 };
 
-    // The order that a line of a posting gives at this hand. Postings count from 1, lines from 0.
-    fn order(&self, house: u8, number: u32, line: usize, hand: i64) -> Order
-        ensures value { result ≡ (meaning self.now).order house number line hand }
+    // Whether a question is in range: there is such a house, posting and line, and such a hand.
+    fn is_asked(&self, question: Question) -> bool
+        ensures { result ≡ asked (meaning self.now) question.posting.house question.posting.number question.line question.hand }
+    {
+        let PostingId { house, number } = question.posting;
+        house < self.houses()
+            && (1..=self.postings(house)).contains(&number)
+            && question.line < self.longest_posting()
+            && in_range(question.hand)
+    }
+
+    // The order that the line gives.
+    fn order(&self, question: Question) -> Order
+        ensures value { result ≡ (meaning self.now).order question.posting.house question.posting.number question.line question.hand }
         ensures kept { OrderKept result };
 
     // The next hand where that order reads and finds this value; none if that is void, or the order reads nothing.
-    fn found(&self, house: u8, number: u32, line: usize, hand: i64, value: i64) -> Option<i64>
-        ensures value { result ≡ (meaning self.now).found house number line hand value }
+    fn found(&self, question: Question, value: i64) -> Option<i64>
+        ensures value { result ≡ (meaning self.now).found question.posting.house question.posting.number question.line question.hand value }
         ensures kept { HandKept result };
 }

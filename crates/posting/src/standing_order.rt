@@ -9,7 +9,7 @@ const MAX_HOUSES: usize = 16;
 const MAX_POSTINGS: u32 = 4096;
 
 // The standing order of a house: so many times, what an account has above the floor moves to another account.
-#[derive(Clone, Copy, PartialEq, Eq)]
+#[derive(Clone, Copy, Debug, PartialEq, Eq)]
 pub struct StandingOrder {
     pub from: u8,
     pub to: u8,
@@ -18,7 +18,7 @@ pub struct StandingOrder {
 }
 
 // Why a table of standing orders was refused, in the order of the tests.
-#[derive(Clone, Copy, PartialEq, Eq)]
+#[derive(Clone, Copy, Debug, PartialEq, Eq)]
 pub enum StandingRefusal {
     // There is no record, or there are more than 16.
     NotOneToSixteen,
@@ -26,16 +26,18 @@ pub enum StandingRefusal {
     BadRecord(usize),
 }
 
-impl StandingRefusal {
-    pub fn number(self) -> u8
-        ensures { result ≡ standing_number self }
-    {
-        match self {
+impl From<StandingRefusal> for u8 {
+    ghost from_gives = { λ refusal number. number ≡ standing_number refusal };
+
+    fn from(refusal: StandingRefusal) -> u8 {
+        match refusal {
             StandingRefusal::NotOneToSixteen => 71,
             StandingRefusal::BadRecord(_) => 72,
         }
     }
+}
 
+impl StandingRefusal {
     // The bad record, or 0 where none is told.
     pub fn place(self) -> usize
         ensures { result ≡ standing_record self }
@@ -47,10 +49,13 @@ impl StandingRefusal {
     }
 }
 
-fn is_good(o: &StandingOrder) -> bool
-    ensures { result ≡ good_order o.now }
+fn is_good(order: &StandingOrder) -> bool
+    ensures { result ≡ good_order order.now }
 {
-    o.from <= LAST_ACCOUNT && o.to <= LAST_ACCOUNT && in_range(o.floor) && o.times <= MAX_POSTINGS
+    order.from <= LAST_ACCOUNT
+        && order.to <= LAST_ACCOUNT
+        && in_range(order.floor)
+        && order.times <= MAX_POSTINGS
 }
 
 // Whether a table of standing orders will do: one record for each of 1 to 16 houses, each within its limits.
@@ -60,10 +65,8 @@ pub fn check_orders(orders: &[StandingOrder]) -> Result<(), StandingRefusal>
     if orders.is_empty() || orders.len() > MAX_HOUSES {
         return Err(StandingRefusal::NotOneToSixteen);
     }
-    for k in 0..orders.len() {
-        if !is_good(&orders[k]) {
-            return Err(StandingRefusal::BadRecord(k));
-        }
-    }
-    Ok(())
+    orders
+        .iter()
+        .position(|order| !is_good(order))
+        .map_or(Ok(()), |k| Err(StandingRefusal::BadRecord(k)))
 }

@@ -2,31 +2,38 @@
 ghost use Rattle.std.specs.Prelude.{◌≡◌, ◌≤◌, true};
 ghost use Rattle.journal.specs.Entries.{InRange};
 ghost use Rattle.posting.specs.Moves.{AlwaysMoves};
-ghost use Rattle.posting.specs.Sources.{asked};
+ghost use Rattle.posting.specs.Sources.{OrderKept};
 ghost use Rattle.posting.specs.Standing.{good_order, orders_kept, order_at, line_order, line_found, standing};
 
-use crate::order::Order;
-use crate::sources::Source;
+use crate::order::{Order, next_hand};
+use crate::sources::{Question, Source};
 use crate::standing_order::{StandingOrder, check_orders};
 use crate::standing_orders::StandingOrders;
 use journal::in_range;
 
 const STANDING_LINES: usize = 5;
 
+// What there is for a house without a record.
+const NO_POSTINGS: StandingOrder = StandingOrder {
+    from: 0,
+    to: 0,
+    floor: 0,
+    times: 0,
+};
+
 // The records if the check accepts them, else none of them.
 fn kept(orders: &[StandingOrder]) -> &[StandingOrder]
     ensures { result.now ≡ orders_kept orders.now }
 {
-    match check_orders(orders) {
-        Ok(()) => orders,
-        Err(_) => &orders[..0],
-    }
+    check_orders(orders).map_or(&[], |()| orders)
 }
 
 // The order that a line gives: what is above the floor moves from one account to the other.
+#[tactic(auto, using(crate::proofs::StandingLimits::order_kept))]
 fn line_order(o: StandingOrder, line: usize, hand: i64) -> Order
-    requires { (InRange o.floor) × (InRange hand) }
-    ensures { result ≡ line_order o line hand }
+    requires { (good_order o ≡ true) × (InRange hand) }
+    ensures value { result ≡ line_order o line hand }
+    ensures kept { OrderKept result }
 {
     match line {
         0 => Order::Read { account: o.from },
@@ -40,14 +47,7 @@ fn line_order(o: StandingOrder, line: usize, hand: i64) -> Order
                 }
             }
         }
-        2 => {
-            let rest = hand - o.floor;
-            if in_range(rest) {
-                Order::GoOn { hand: rest }
-            } else {
-                Order::Void
-            }
-        }
+        2 => Order::go_on(hand - o.floor),
         3 => Order::Read { account: o.to },
         _ => Order::Write {
             account: o.to,
@@ -63,10 +63,7 @@ fn line_found(line: usize, hand: i64, value: i64) -> Option<i64>
 {
     match line {
         0 => Some(value),
-        3 => {
-            let sum = hand + value;
-            if in_range(sum) { Some(sum) } else { None }
-        }
+        3 => next_hand(hand + value),
         _ => None,
     }
 }
@@ -88,27 +85,10 @@ impl<'a> StandingOrders<'a> {
         ensures value { result ≡ order_at self.now.orders.now house }
         ensures good { good_order result ≡ true }
     {
-        let place = house as usize;
-        if place < self.orders.len() {
-            return self.orders[place];
-        }
-        StandingOrder {
-            from: 0,
-            to: 0,
-            floor: 0,
-            times: 0,
-        }
-    }
-
-    // Whether a question is in range: there is such a house, posting and line, and such a hand.
-    fn is_asked(&self, house: u8, number: u32, line: usize, hand: i64) -> bool
-        ensures { result ≡ asked (standing self.now.orders.now) house number line hand }
-    {
-        (house as usize) < self.orders.len()
-            && 1 <= number
-            && number <= self.order_at(house).times
-            && line < STANDING_LINES
-            && in_range(hand)
+        self.orders
+            .get(house as usize)
+            .copied()
+            .unwrap_or(NO_POSTINGS)
     }
 }
 
@@ -126,21 +106,24 @@ impl<'a> Source for StandingOrders<'a> {
     }
 
     fn postings(&self, house: u8) -> u32 {
-        let o = self.order_at(house);
-        o.times
+        self.order_at(house).times
     }
 
-    fn order(&self, house: u8, number: u32, line: usize, hand: i64) -> Order {
-        if !self.is_asked(house, number, line, hand) {
+    fn order(&self, question: Question) -> Order {
+        if !self.is_asked(question) {
             return Order::Void;
         }
-        line_order(self.order_at(house), line, hand)
+        line_order(
+            self.order_at(question.posting.house),
+            question.line,
+            question.hand,
+        )
     }
 
-    fn found(&self, house: u8, number: u32, line: usize, hand: i64, value: i64) -> Option<i64> {
-        if !self.is_asked(house, number, line, hand) || !in_range(value) {
+    fn found(&self, question: Question, value: i64) -> Option<i64> {
+        if !self.is_asked(question) || !in_range(value) {
             return None;
         }
-        line_found(line, hand, value)
+        line_found(question.line, question.hand, value)
     }
 }
