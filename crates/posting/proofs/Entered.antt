@@ -122,7 +122,7 @@ pub always_enterable : (m : Meaning) → Limits m → Enterable m
 always_enterable m limits house number start balance low first last h =
     let k : Kept (blank start) = record { hand = h; values = values_none 64; all = refl } in
     sound_lawful _ house number
-    (worked_sound m limits house number balance start h m.longest 0 (blank start) k (omega (arith, blank_none start, limits.short)))
+    (worked_sound m limits house number balance start h m.longest 0 (blank start) k (omega (arith, blank_none start (blank start) refl, limits.short)))
     low first last
 
 -- the record of a lawful outcome is an entry

@@ -1,50 +1,69 @@
 -- Pairs gathered account by account.
-use Rattle.std.proofs.Common.{◌≡◌, ℕ, zero, suc, ◌+◌, ◌<◌, ◌≤◌, List, [], ◌∷◌, ◌++◌, length, get_or, take, set, ℤ, Option, sym, refl, ap, ◌∙◌, append_assoc, append-nil, arith, length-append, length-take}
-use Rattle.std.proofs.lemmas.List.{take_all, take_at, take_more, take_more_set}
+use Rattle.std.proofs.Common.{◌≡◌, ℕ, ◌+◌, ◌<◌, ◌≤◌, false, List, [], ◌∷◌, ◌++◌, length, get_or, drop, ℤ, Some, None, Option, sym, ap, ◌∙◌, append_assoc, append-nil, arith, length-append}
+use Rattle.std.proofs.lemmas.List.{at_drop_more, at_drop_all}
 use Rattle.journal.specs.declared.entry.Pair.{Pair}
-use Rattle.posting.specs.Alone.{pair_of, pairs_from}
+use Rattle.posting.specs.Alone.{Outcome, outcome, listed, pair_of, pairs_from, closed}
+use Rattle.posting.specs.declared.sheet.Draft.{Draft}
+use Rattle.posting.specs.declared.sheet.Sheet.{Sheet}
 
-take_small : (c : ℕ) (ps : List Pair) → c ≤ 16 → length (take c ps) ≤ 16
-take_small c ps h = simp length-take (omega arith)
+-- the pairs gathered up to an account, and those still to come, are all that was written
+pub record Gathered (s : Sheet) (a : ℕ) (d : Draft) : Type 0 where
+  pub room : length d.pairs ≡ 16
+  pub count : d.count ≡ length (listed d)
+  pub pairs : listed d ++ pairs_from a (drop a s.written) ≡ pairs_from 0 s.written
+  pub reads : d.reads ≡ s.reads
+  pub void : d.void ≡ false
+  pub hand : d.hand ≡ s.hand
 
--- nothing to add
-pub add_none : (c : ℕ) (ps : List Pair) → c ≤ 16 → take c ps ≡ take 16 (take c ps ++ [])
-add_none c ps h = sym (ap (take 16) (append-nil (take c ps)) ∙ take_all 16 (take c ps) (take_small c ps h))
-
--- one more pair where there is room
-pub add_room : (c : ℕ) (ps : List Pair) (p : Pair) → c < 16 → c < length ps → take (c + 1) (set ps c p) ≡ take 16 (take c ps ++ (p ∷ []))
-add_room c ps p h l =
-    let small : length (take c ps ++ (p ∷ [])) ≤ 16 = simp (length-append, length-take) (omega arith) in
-    take_more_set ps c p l ∙ sym (take_all 16 (take c ps ++ (p ∷ [])) small)
-
--- no more where there is none
-pub add_full : (c : ℕ) (ps : List Pair) (p : Pair) → 16 ≤ c → c ≤ 16 → length ps ≡ 16 → take c ps ≡ take 16 (take c ps ++ (p ∷ []))
-add_full c ps p g h l =
-    let full : length (take c ps) ≡ 16 = simp length-take (omega arith) in sym (take_at (take c ps) (p ∷ []) 16 full)
-
-take_twice : (n : ℕ) (ps qs : List Pair) → take n (take n ps ++ qs) ≡ take n (ps ++ qs)
-take_twice zero ps qs = refl
-take_twice (suc n) [] qs = refl
-take_twice (suc n) (p ∷ ps) qs = ap (λ r. p ∷ r) (take_twice n ps qs)
-
-pairs_append : (a : ℕ) (ws : List (Option ℤ)) (w : Option ℤ) → pairs_from a (ws ++ (w ∷ [])) ≡ pairs_from a ws ++ pair_of (a + length ws) w
+next_pair : (ws : List (Option ℤ)) (a : ℕ) (w : Option ℤ) → a < length ws → get_or ws a None ≡ w → pairs_from a (drop a ws) ≡ pair_of a w ++ pairs_from (a + 1) (drop (a + 1) ws)
 unfolding pairs_from
-pairs_append a [] w = append-nil (pair_of a w) ∙ ap (λ n. pair_of n w) (let e : a ≡ a + 0 = omega arith in e)
-pairs_append a (x ∷ ws) w =
-    let e : a + 1 + length ws ≡ a + suc (length ws) = omega arith in
-    ap (λ r. pair_of a x ++ r) (pairs_append (a + 1) ws w ∙ ap (λ n. pairs_from (a + 1) ws ++ pair_of n w) e)
-    ∙ sym (append_assoc (pair_of a x) (pairs_from (a + 1) ws) _)
+next_pair ws a w lt is = at_drop_more (pairs_from a) ws a None lt ∙ ap (λ x. pair_of a x ++ pairs_from (a + 1) (drop (a + 1) ws)) is
 
--- the pair of the next account joins those of the accounts before it
-pub gather_more :
-    (ws : List (Option ℤ)) (a : ℕ) (d : Option ℤ) (ps qs : List Pair) → a < length ws → ps ≡ take 16 (pairs_from 0 (take a ws))
-    → qs ≡ take 16 (ps ++ pair_of a (get_or ws a d)) → qs ≡ take 16 (pairs_from 0 (take (a + 1) ws))
-gather_more ws a d ps qs lt before now =
-    let n : 0 + length (take a ws) ≡ a = simp length-take (omega arith) in
-    now ∙ ap (λ x. take 16 (x ++ pair_of a (get_or ws a d))) before ∙ take_twice 16 (pairs_from 0 (take a ws)) (pair_of a (get_or ws a d))
-    ∙ ap (λ k. take 16 (pairs_from 0 (take a ws) ++ pair_of k (get_or ws a d))) (sym n)
-    ∙ ap (take 16) (sym (pairs_append 0 (take a ws) (get_or ws a d))) ∙ ap (λ x. take 16 (pairs_from 0 x)) (sym (take_more ws a d lt))
+-- an account that was not written
+pub passed : (s : Sheet) (a : ℕ) (d : Draft) → a < length s.written → get_or s.written a None ≡ None → Gathered s a d → Gathered s (a + 1) d
+passed s a d lt is before = record {
+  room = before.room;
+  count = before.count;
+  pairs = ap (λ x. listed d ++ x) (sym (next_pair s.written a None lt is)) ∙ before.pairs;
+  reads = before.reads;
+  void = before.void;
+  hand = before.hand;
+}
 
-pub gather_none : (ws : List (Option ℤ)) (ps : List Pair) → ps ≡ [] → ps ≡ take 16 (pairs_from 0 (take 0 ws))
+-- there is room for the pair of one that was
+pub has_room : (s : Sheet) (a : ℕ) (d : Draft) (value : ℤ) → a < length s.written → get_or s.written a None ≡ Some value → length (pairs_from 0 s.written) ≤ 16 → Gathered s a d → d.count < 16
+has_room s a d value lt is few before =
+    let all = ap length before.pairs in
+    let next = ap length (next_pair s.written a (Some value) lt is) in
+    omega (arith, few, all, next, before.count, length-append (listed d) (pairs_from a (drop a s.written)))
+
+-- and then it joins the others
+pub joined :
+    (s : Sheet) (a : ℕ) (d e : Draft) (value : ℤ) → a < length s.written → get_or s.written a None ≡ Some value → Gathered s a d
+    → outcome e ≡ record { reads = d.reads; void = d.void; hand = d.hand; pairs = listed d ++ record { account = a; value = value } ∷ [] }
+    → e.count ≡ d.count + 1 → length e.pairs ≡ 16 → Gathered s (a + 1) e
+joined s a d e value lt is before out more room =
+    let p : Pair = record { account = a; value = value } in
+    let list : listed e ≡ listed d ++ p ∷ [] = ap (λ (x : Outcome). x.pairs) out in
+    let longer : length (listed e) ≡ length (listed d) + 1 = ap length list ∙ length-append (listed d) (p ∷ []) in
+    record {
+      room = room;
+      count = omega (arith, more, longer, before.count);
+      pairs =
+          ap (λ x. x ++ pairs_from (a + 1) (drop (a + 1) s.written)) list ∙ append_assoc (listed d) (p ∷ []) _
+          ∙ ap (λ x. listed d ++ x) (sym (next_pair s.written a (Some value) lt is)) ∙ before.pairs;
+      reads = ap (λ (x : Outcome). x.reads) out ∙ before.reads;
+      void = ap (λ (x : Outcome). x.void) out ∙ before.void;
+      hand = ap (λ (x : Outcome). x.hand) out ∙ before.hand;
+    }
+
+finished : (d : Draft) (s : Sheet) → d.reads ≡ s.reads → d.void ≡ false → d.hand ≡ s.hand → listed d ≡ pairs_from 0 s.written → outcome d ≡ closed s
+finished d s reads void hand all = cc
+
+-- after the last account
+pub gathered : (s : Sheet) (a : ℕ) (d : Draft) → length s.written ≤ a → Gathered s a d → outcome d ≡ closed s
 unfolding pairs_from
-gather_none ws ps h = h
+gathered s a d le before =
+    let all : listed d ≡ pairs_from 0 s.written =
+    sym (append-nil (listed d)) ∙ ap (λ x. listed d ++ x) (sym (at_drop_all (pairs_from a) s.written a le)) ∙ before.pairs in
+    finished d s before.reads before.void before.hand all

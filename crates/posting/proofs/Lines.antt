@@ -26,9 +26,9 @@ module _ (m : Meaning) (house number : ℕ) (balance : ℕ → ℤ) (start : ℤ
   unfolding worked
   worked_out n line s e = rw e refl
 
-pub worked_all : (m : Meaning) (house number : ℕ) (balance : ℕ → ℤ) (start : ℤ) (n : ℕ) → worked m house number balance start (n - 0) 0 (blank start) ≡ worked m house number balance start n 0 (blank start)
-worked_all m house number balance start n =
-    let e : n - 0 ≡ n = omega arith in ap (λ l. worked m house number balance start l 0 (blank start)) e
+pub worked_all : (m : Meaning) (house number : ℕ) (balance : ℕ → ℤ) (start : ℤ) (n : ℕ) (s : Sheet) → s ≡ blank start → worked m house number balance start (n - 0) 0 s ≡ worked m house number balance start n 0 (blank start)
+worked_all m house number balance start n s first =
+    let e : n - 0 ≡ n = omega arith in ap (λ l. worked m house number balance start l 0 s) e ∙ ap (worked m house number balance start n 0) first
 
 pub worked_same : (m : Meaning) (house number : ℕ) (balance : ℕ → ℤ) (h k : ℤ) (n l : ℕ) → h ≡ k → n ≡ l → worked m house number balance h n 0 (blank h) ≡ worked m house number balance k l 0 (blank k)
 worked_same m house number balance h k n l e f =
@@ -78,6 +78,6 @@ pub lines_few :
     → length (pairs_from 0 s.written) ≤ line → (p, t) ≡ line_of m house number balance line s → length (pairs_from 0 t.written) ≤ line + 1
 lines_few m house number balance line s t p few e = omega (arith, line_adds m house number balance line s t p e)
 
-pub blank_none : (start : ℤ) → length (pairs_from 0 (blank start).written) ≡ 0
+pub blank_none : (start : ℤ) (s : Sheet) → s ≡ blank start → length (pairs_from 0 s.written) ≡ 0
 unfolding pairs_from
-blank_none start = refl
+blank_none start s first = rw first refl

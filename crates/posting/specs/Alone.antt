@@ -11,7 +11,6 @@ use Rattle.posting.specs.declared.sheet.Sheet.{Sheet}
 use Rattle.posting.specs.declared.sheet.Progress.{Progress}
 use Rattle.posting.specs.declared.sheet.Progress.TheVariants.{More, Ended, Voided}
 use Rattle.posting.specs.declared.sheet.Draft.{Draft}
-use Rattle.posting.specs.declared.sheet.PairList.{PairList}
 
 -- what a posting comes to: which accounts' balances it read (place a tells of account a), whether it is void,
 -- the hand that it leaves, and the accounts that it gives values to, rising
@@ -21,8 +20,12 @@ pub record Outcome : Type 0 where
   pub hand : ℤ
   pub pairs : List Pair
 
+-- a draft lists its first `count` pairs
+abbrev pub listed : Draft → List Pair
+listed d = take d.count d.pairs
+
 abbrev pub outcome : Draft → Outcome
-outcome d = record { reads = d.reads; void = d.void; hand = d.hand; pairs = take d.count d.pairs }
+outcome d = record { reads = d.reads; void = d.void; hand = d.hand; pairs = listed d }
 
 -- at first nothing is read or written
 abbrev pub blank : ℤ → Sheet
@@ -67,10 +70,6 @@ pair_of a (Some value) = record { account = a; value = value } ∷ []
 unfoldable pub pairs_from : ℕ → List (Option ℤ) → List Pair
 pairs_from a [] = []
 pairs_from a (w ∷ ws) = pair_of a w ++ pairs_from (a + 1) ws
-
--- a list says its first `count` pairs
-abbrev pub listed : PairList → List Pair
-listed ps = take ps.count ps.pairs
 
 -- an end with the present hand and all that was written
 abbrev pub closed : Sheet → Outcome

@@ -1,9 +1,9 @@
 // Postings: what sources of postings say, and what a posting worked alone gives.
 #![tactic(auto)]
 
+mod balances;
 mod drafting;
 mod order;
-mod pairs;
 mod sheet;
 mod sources;
 mod standing_order;

@@ -7,7 +7,8 @@ use Rattle.posting.proofs.Entered.{always_enterable}
 use Rattle.posting.proofs.drafting.draft.Goals as goal
 
 pub loop-line-init : goal.loop-line-init
-loop-line-init g c = (worked_all _ _ _ _ _ _, omega (arith, blank_none c.args.start))
+loop-line-init g c =
+    (worked_all _ _ _ _ _ _ _ c.blank-sheet.ensures, omega (arith, blank_none _ _ c.blank-sheet.ensures))
 
 pub loop-line-preserved : goal.loop-line-preserved
 loop-line-preserved g c = (
