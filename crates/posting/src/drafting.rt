@@ -66,7 +66,7 @@ pub fn draft<S: Source, R: Reading>(
     for line in 0..lines {
         match work_line(source, &balances, posting, line, &mut sheet) {
             Progress::More => {}
-            Progress::Ended => return sheet.close(),
+            Progress::Ended => break,
             Progress::Voided => return sheet.spoil(start),
         }
     }

@@ -149,6 +149,7 @@ impl Draft {
     }
 
     // The entry that the draft makes for its posting: it says what the draft comes to, and is an entry if that is lawful.
+    #[tactic(auto, using(crate::proofs::Entered::entry_lawful))]
     pub fn entry_for(&self, posting: PostingId) -> Entry
         ensures value { result ≡ entry_for self.now posting.house posting.number }
         ensures says { posted result ≡ posted_for (outcome self.now) posting.house posting.number }

@@ -71,6 +71,7 @@ fn line_found(line: usize, hand: i64, value: i64) -> Option<i64>
 impl<'a> StandingOrders<'a> {
     // The source of these records; one without houses if `check_orders` refuses them. Each of its postings moves what an account
     // has above the floor.
+    #[tactic(auto, using(crate::proofs::Checked::kept_good, crate::proofs::Moving::always_moves))]
     pub fn new(orders: &'a [StandingOrder]) -> Self
         ensures orders { result.orders.now ≡ orders_kept orders.now }
         ensures moves { AlwaysMoves (orders_kept orders.now) }
@@ -97,6 +98,7 @@ impl<'a> Source for StandingOrders<'a> {
 
     ghost meaning = { λ s. standing s.orders.now };
 
+    #[tactic(auto, using(crate::proofs::StandingLimits::standing_limits))]
     fn longest_posting(&self) -> usize {
         Self::LONGEST
     }

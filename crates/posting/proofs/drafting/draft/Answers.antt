@@ -1,9 +1,10 @@
-use Rattle.std.proofs.Common.{◌≡◌, ◌-◌, ◌∙◌, arith, w64}
+use Rattle.std.proofs.Common.{◌≡◌, ◌-◌, ap, ◌∙◌, arith, w64}
 use Rattle.std.proofs.lemmas.Int.{to_z-of_z}
-use Rattle.posting.specs.Alone.{balances_after}
+use Rattle.posting.specs.Alone.{balances_after, worked, blank, closed}
 use Rattle.posting.proofs.Lines.{worked_more, worked_ended, worked_voided, worked_out, worked_all, worked_same, lines_few, blank_none}
 use Rattle.posting.proofs.Locality.{always_local}
 use Rattle.posting.proofs.Entered.{always_enterable}
+use Rattle.posting.proofs.drafting.draft.Goals.{else-loop-line-test, then-loop-line-test+in-Ended}
 use Rattle.posting.proofs.drafting.draft.Goals as goal
 
 pub loop-line-init : goal.loop-line-init
@@ -17,22 +18,6 @@ loop-line-preserved g c = (
       (balances_after (g.R.Reading.entries c.args.journal.now) c.args.openings.now c.args.k) c.loop-line.line c.loop-line.sheet _ _ c.loop-line.invariant.1 c.in-More.ensures,
 )
 
-pub close-requires : goal.close-requires
-close-requires g c =
-    let few = lines_few (g.S.Source.meaning c.args.source.now) c.args.posting.house c.args.posting.number
-    (balances_after (g.R.Reading.entries c.args.journal.now) c.args.openings.now c.args.k) c.loop-line.line c.loop-line.sheet _ _ c.loop-line.invariant.1 c.in-Ended.ensures in
-    omega (arith, c.longest_posting-lines.ensures.value, c.longest_posting-lines.ensures.limits.short, few)
-
-pub returns-in-Ended : goal.returns-in-Ended
-returns-in-Ended g c = record {
-  value =
-      c.close.ensures.value ∙ worked_ended _ _ _ _ _ _ _ _ _ c.loop-line-test.true c.in-Ended.ensures ∙ c.loop-line.invariant.0
-      ∙ worked_same _ _ _ _ _ _ _ _ (to_z-of_z w64 c.args.start c.ranges.start) c.longest_posting-lines.ensures.value;
-  counted = c.close.ensures.counted;
-  local = always_local _ c.longest_posting-lines.ensures.limits;
-  enterable = always_enterable _ c.longest_posting-lines.ensures.limits;
-}
-
 pub returns-in-Voided : goal.returns-in-Voided
 returns-in-Voided g c = record {
   value =
@@ -43,18 +28,32 @@ returns-in-Voided g c = record {
   enterable = always_enterable _ c.longest_posting-lines.ensures.limits;
 }
 
-pub close-requires-2 : goal.close-requires-2
-close-requires-2 g c =
-    omega (arith, c.loop-line.invariant.1, c.longest_posting-lines.ensures.value, c.longest_posting-lines.ensures.limits.short)
+pub close-requires : goal.close-requires
+close-requires g c =
+    let limits = c.longest_posting-lines.ensures.limits in
+    let lines = c.longest_posting-lines.ensures.value in
+    elim c.loop-line-test.branch [
+      | else-loop-line-test w ↦ rw w.sheet-is (omega (arith, c.loop-line.invariant.1, c.loop-line.auto.line-end, lines, limits.short))
+      | then-loop-line-test+in-Ended w ↦
+          let few = lines_few (g.S.Source.meaning c.args.source.now) c.args.posting.house c.args.posting.number
+          (balances_after (g.R.Reading.entries c.args.journal.now) c.args.openings.now c.args.k) c.loop-line.line c.loop-line.sheet _ _ c.loop-line.invariant.1 w.in-Ended.ensures in
+          rw w.sheet-is (omega (arith, few, w.loop-line-test.true, lines, limits.short))
+    ]
 
 pub returns : goal.returns
 returns g c =
-    let out : c.longest_posting-lines.result - c.loop-line.line ≡ 0 = omega arith in
+    let end : closed c.loop-line-test.sheet ≡ worked (g.S.Source.meaning c.args.source.now) c.args.posting.house c.args.posting.number
+    (balances_after (g.R.Reading.entries c.args.journal.now) c.args.openings.now c.args.k) _ c.longest_posting-lines.result 0 (blank _) =
+    elim c.loop-line-test.branch [
+      | else-loop-line-test w ↦
+          let out : c.longest_posting-lines.result - c.loop-line.line ≡ 0 = omega (arith, w.loop-line-test.false) in
+          ap closed w.sheet-is ∙ worked_out _ _ _ _ _ _ _ _ out ∙ c.loop-line.invariant.0
+      | then-loop-line-test+in-Ended w ↦
+          ap closed w.sheet-is ∙ worked_ended _ _ _ _ _ _ _ _ _ w.loop-line-test.true w.in-Ended.ensures ∙ c.loop-line.invariant.0
+    ] in
     record {
-      value =
-          c.close-2.ensures.value ∙ worked_out _ _ _ _ _ _ _ _ out ∙ c.loop-line.invariant.0
-          ∙ worked_same _ _ _ _ _ _ _ _ (to_z-of_z w64 c.args.start c.ranges.start) c.longest_posting-lines.ensures.value;
-      counted = c.close-2.ensures.counted;
+      value = c.close.ensures.value ∙ end ∙ worked_same _ _ _ _ _ _ _ _ (to_z-of_z w64 c.args.start c.ranges.start) c.longest_posting-lines.ensures.value;
+      counted = c.close.ensures.counted;
       local = always_local _ c.longest_posting-lines.ensures.limits;
       enterable = always_enterable _ c.longest_posting-lines.ensures.limits;
     }
