@@ -120,6 +120,7 @@ fn passes(e: &Entry) -> bool
 
 // Whether the record is an entry: house 0 to 15, number 1 to 4,096, hand and values within 10^15 cents of 0,
 // at most 16 pairs with accounts 0 to 63 strictly rising, and none if it is void.
+#[tactic(auto, using(crate::proofs::Lawfulness::entry_decided))]
 pub fn is_entry(e: &Entry) -> bool
     ensures test { result ≡ is_entry e.now }
     ensures decides { Decides result (IsEntry e.now) }

@@ -68,6 +68,7 @@ pub fn entry_line<R: Reading>(journal: &R, k: usize, out: &mut [u8]) -> Result<u
 }
 
 // A slice of this length has room for every line of a lawful journal.
+#[tactic(auto, using(crate::proofs::Widths::longest_line_lem))]
 pub fn longest_line() -> usize
     ensures value { result ≡ 372 }
     ensures suffices { LongestLine }
