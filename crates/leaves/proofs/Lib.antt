@@ -1,4 +1,5 @@
 pub mod RoundTrip
+pub mod FromFn
 pub mod LeafBytes
 pub mod LeafPairs
 pub mod LeafTest

@@ -1,11 +1,13 @@
 -- Leaves in use, with one more of them, and as a closed book.
-use Rattle.std.proofs.Common.{◌≡◌, ℕ, suc, ◌+◌, ◌*◌, ◌/◌, ◌<◌, ◌≤◌, List, [], ◌∷◌, ◌++◌, length, take, drop, sym, ap, ◌∙◌, subst, add-one, arith}
+use Rattle.std.proofs.Common.{◌≡◌, ℕ, suc, ◌+◌, ◌*◌, ◌/◌, ◌<◌, ◌≤◌, List, [], ◌∷◌, ◌++◌, length, get_or, take, drop, sym, ap, ◌∙◌, subst, add-one, arith}
 use Rattle.std.proofs.lemmas.List.{append_assoc, length-append, length-take-le, length-drop, take-append-drop, take-append-le, drop-append-le, take_at, drop_at}
+use Rattle.std.specs.List.{HoldsAt, AllWithin}
+use Rattle.std.specs.Simd.{first_chunks}
 use Rattle.journal.specs.Entries.{Posted, posted, IsEntry}
 use Rattle.leaves.specs.Leaf.{entry_on, leaf_of, IsLeaf}
 use Rattle.leaves.specs.Pages.{leaf_at, leaf_put, entries_on, GoodBook}
 use Rattle.journal.specs.declared.entry.Entry.{Entry}
-use Rattle.leaves.proofs.PageEntries.{entries_front, entries_last}
+use Rattle.leaves.proofs.PageEntries.{entries_front, entries_last, length_leaves, nth_leaf}
 use Rattle.leaves.proofs.RoundTrip.{reads_back, length_leaf}
 
 pub length_put : (bs leaf : List ℕ) (n : ℕ) → length leaf ≡ 160 → 160 * n + 160 ≤ length bs → length (leaf_put bs n leaf) ≡ length bs
@@ -70,3 +72,18 @@ front_good bs n h few good =
       whole = (omega arith, omega arith);
       leaves = λ k l. subst IsLeaf (sym (leaf_take bs (160 * n) k h (omega arith))) (good k (omega arith));
     }
+
+leaf_is : (bs : List ℕ) (ls : List (List ℕ)) (n : ℕ) → ls ≡ first_chunks 160 n bs → (k : ℕ) → k < n → get_or ls k [] ≡ leaf_at bs k
+leaf_is bs ls n is k h = ap (λ (xs : List (List ℕ)). get_or xs k []) is ∙ nth_leaf n k bs [] h
+
+-- where every leaf is one, and where the first is not
+pub all_leaves : (bs : List ℕ) (ls : List (List ℕ)) (n : ℕ) → ls ≡ first_chunks 160 n bs → AllWithin IsLeaf ls 0 (length ls) → (k : ℕ) → k < n → IsLeaf (leaf_at bs k)
+all_leaves bs ls n is all k h = subst IsLeaf (leaf_is bs ls n is k h) (all k [] (omega arith) (omega (arith, ap (λ (xs : List (List ℕ)). length xs) is, length_leaves n bs)))
+
+pub first_broken :
+    (bs : List ℕ) (ls : List (List ℕ)) (n k : ℕ) → ls ≡ first_chunks 160 n bs
+    → (k < length ls) × HoldsAt (λ leaf. IsLeaf leaf → ⊥) ls k × AllWithin IsLeaf ls 0 k
+    → (k < n) × (IsLeaf (leaf_at bs k) → ⊥) × ((j : ℕ) → j < k → IsLeaf (leaf_at bs j))
+first_broken bs ls n k is (within, broken, before) =
+    let h : k < n = omega (arith, within, ap (λ (xs : List (List ℕ)). length xs) is, length_leaves n bs) in
+    (h, subst (λ (leaf : List ℕ). IsLeaf leaf → ⊥) (leaf_is bs ls n is k h) (broken []), λ j lt. subst IsLeaf (leaf_is bs ls n is j (omega (arith, lt, h))) (before j [] (omega arith) lt))

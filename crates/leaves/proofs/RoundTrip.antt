@@ -60,8 +60,9 @@ length_leaf e few =
 abbrev built : ℕ → ℕ → Bool → ℤ → List Pair → Posted
 built h n v d ps = record { house = h; number = n; void = v; hand = d; pairs = ps }
 
-same : (h : ℕ) (n n' : ℕ) (v v' : Bool) (d d' : ℤ) (ps ps' : List Pair) → n ≡ n' → v ≡ v' → d ≡ d' → ps ≡ ps' → built h n v d ps ≡ built h n' v' d' ps'
-same h n n' v v' d d' ps ps' en ev ed ep = cc
+-- what two entries say is the same, part by part
+pub same : (h h' : ℕ) (n n' : ℕ) (v v' : Bool) (d d' : ℤ) (ps ps' : List Pair) → h ≡ h' → n ≡ n' → v ≡ v' → d ≡ d' → ps ≡ ps' → built h n v d ps ≡ built h' n' v' d' ps'
+same h h' n n' v v' d d' ps ps' eh en ev ed ep = cc
 
 pub reads_back : ReadsBack
 reads_back e is =
@@ -76,7 +77,8 @@ reads_back e is =
     ∙ ap (λ (ks : List ℕ). pairs_on (length ps) ks (drop 16 tail)) (append_assoc (account_bytes ps) pad values)
     ∙ ap (λ (vs : List ℕ). pairs_on (length ps) (account_bytes ps ++ (pad ++ values)) vs) (drop_at accounts values 16 (accounts_whole ps is.few))
     ∙ pairs_back ps (pad ++ values) (replicate (128 - length (value_bytes ps)) 0) is.values in
-    same e.house _ _ _ _ _ _ _ _
+    same e.house _ _ _ _ _ _ _ _ _
+    refl
     (number_back e.number (signed_bytes e.hand ++ tail) is.last)
     (mark_back e.void)
     (signed_back e.hand tail is.hand)

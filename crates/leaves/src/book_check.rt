@@ -1,12 +1,12 @@
 // The check of a closed book.
-ghost use Rattle.std.specs.Prelude.{◌≡◌, ◌+◌, ◌*◌, ◌/◌, ◌≤◌, length};
-ghost use Rattle.leaves.specs.Pages.{leaf_at, book_number, book_leaf, BookChecked};
+ghost use Rattle.std.specs.Prelude.{◌≡◌};
+ghost use Rattle.leaves.specs.Pages.{book_number, book_leaf, BookChecked};
 
 use crate::leaf::{LEAF, is_leaf};
 use journal::MAX_ENTRIES;
 
 // Why bytes are no closed book, in the order of the tests.
-#[derive(Clone, Copy, PartialEq, Eq)]
+#[derive(Clone, Copy, Debug, PartialEq, Eq)]
 pub enum BookRefusal {
     // The bytes are not whole leaves, or more than 4,096 of them.
     NotWholeLeaves,
@@ -14,16 +14,18 @@ pub enum BookRefusal {
     BrokenLeaf(usize),
 }
 
-impl BookRefusal {
-    pub fn number(self) -> u8
-        ensures { result ≡ book_number self }
-    {
-        match self {
+impl From<BookRefusal> for u8 {
+    ghost from_gives = { λ refusal number. number ≡ book_number refusal };
+
+    fn from(refusal: BookRefusal) -> u8 {
+        match refusal {
             BookRefusal::NotWholeLeaves => 51,
             BookRefusal::BrokenLeaf(_) => 52,
         }
     }
+}
 
+impl BookRefusal {
     // The broken leaf, or 0 where none is told.
     pub fn leaf(self) -> usize
         ensures { result ≡ book_leaf self }
@@ -35,27 +37,16 @@ impl BookRefusal {
     }
 }
 
-// Leaf `k` of bytes that have it.
-pub(crate) fn leaf_slice(bytes: &[u8], k: usize) -> &[u8]
-    requires { 160 * k + 160 ≤ length bytes.now }
-    ensures value { result.now ≡ leaf_at bytes.now k }
-    ensures whole { length result.now ≡ 160 }
-{
-    let from = LEAF * k;
-    &bytes[from..from + LEAF]
-}
-
 // Whether bytes are a closed book: whole leaves, at most 4,096, each the leaf of some entry.
 pub fn check_book(bytes: &[u8]) -> Result<(), BookRefusal>
     ensures { BookChecked bytes.now result }
 {
-    if bytes.len() % LEAF != 0 || bytes.len() > MAX_ENTRIES * LEAF {
+    let (leaves, rest) = bytes.as_chunks::<LEAF>();
+    if !rest.is_empty() || leaves.len() > MAX_ENTRIES {
         return Err(BookRefusal::NotWholeLeaves);
     }
-    for k in 0..bytes.len() / LEAF {
-        if !is_leaf(leaf_slice(bytes, k)) {
-            return Err(BookRefusal::BrokenLeaf(k));
-        }
+    match leaves.iter().position(|leaf| !is_leaf(leaf)) {
+        Some(k) => Err(BookRefusal::BrokenLeaf(k)),
+        None => Ok(()),
     }
-    Ok(())
 }

@@ -1,11 +1,15 @@
 // A closed book has the reading part of a journal alone.
 ghost use Rattle.std.specs.Prelude.{◌≡◌, length};
+ghost use Rattle.std.specs.Option.{option_map};
+ghost use Rattle.std.specs.List.{slice_get};
+ghost use Rattle.leaves.specs.Leaf.{entry_on};
 ghost use Rattle.leaves.specs.Pages.{Kept, BookOpened};
 ghost use Rattle.leaves.specs.Stores.{book_entries};
 
 use crate::book_check::check_book;
 use crate::closed_book::ClosedBook;
-use crate::pages::Pages;
+use crate::leaf::{LEAF, count_on, given_on, hand_on, identity_on, pair_on, void_on};
+use crate::pages::leaves_in;
 use journal::{MAX_ENTRIES, Pair, PostingId, Reading};
 
 // The bytes if they are a closed book, else none of them.
@@ -14,7 +18,7 @@ fn checked(bytes: &[u8]) -> &[u8]
 {
     match check_book(bytes) {
         Ok(()) => bytes,
-        Err(_) => &bytes[..0],
+        Err(_) => &[],
     }
 }
 
@@ -28,14 +32,11 @@ impl<'a> ClosedBook<'a> {
         }
     }
 
-    fn pages(&self) -> Pages<'_>
-        ensures bytes { result.bytes.now ≡ self.now.bytes.now }
-        ensures used { result.used ≡ 4096 }
+    // The leaf of entry `k`.
+    fn leaf(&self, k: usize) -> Option<&[u8; LEAF]>
+        ensures { option_map (λ leaf. entry_on leaf.now) result ≡ slice_get (book_entries self.now) k }
     {
-        Pages {
-            bytes: self.bytes,
-            used: MAX_ENTRIES,
-        }
+        leaves_in(self.bytes, MAX_ENTRIES).get(k)
     }
 }
 
@@ -45,34 +46,34 @@ impl<'a> Reading for ClosedBook<'a> {
     ghost size = { λ b. length (book_entries b) };
 
     fn length(&self) -> usize {
-        self.pages().length()
+        leaves_in(self.bytes, MAX_ENTRIES).len()
     }
 
     fn size(&self) -> usize {
-        self.pages().length()
+        self.length()
     }
 
     fn identity(&self, k: usize) -> Option<PostingId> {
-        self.pages().identity(k)
+        self.leaf(k).map(identity_on)
     }
 
     fn void(&self, k: usize) -> Option<bool> {
-        self.pages().void(k)
+        self.leaf(k).map(void_on)
     }
 
     fn hand(&self, k: usize) -> Option<i64> {
-        self.pages().hand(k)
+        self.leaf(k).map(hand_on)
     }
 
     fn count(&self, k: usize) -> Option<usize> {
-        self.pages().count(k)
+        self.leaf(k).map(count_on)
     }
 
     fn pair(&self, k: usize, j: usize) -> Option<Pair> {
-        self.pages().pair(k, j)
+        self.leaf(k).and_then(|leaf| pair_on(leaf, j))
     }
 
     fn given(&self, k: usize, account: u8) -> Option<i64> {
-        self.pages().given(k, account)
+        self.leaf(k).and_then(|leaf| given_on(leaf, account))
     }
 }

@@ -1,14 +1,16 @@
 // A journal in bytes of the host's memory, a leaf of 160 bytes for each entry.
 ghost use Rattle.std.specs.Prelude.{◌≡◌, ◌*◌, ◌/◌, [], length, take, is_ok, if◌then◌else◌};
+ghost use Rattle.std.specs.Option.{option_map};
+ghost use Rattle.std.specs.List.{slice_get};
 ghost use Rattle.journal.specs.Entries.{posted};
 ghost use Rattle.journal.specs.Filing.{filing, filed};
-ghost use Rattle.leaves.specs.Leaf.{leaf_of};
+ghost use Rattle.leaves.specs.Leaf.{entry_on, leaf_of};
 ghost use Rattle.leaves.specs.Pages.{whole_leaves, leaf_put, entries_on, GoodBook};
 ghost use Rattle.leaves.specs.Stores.{leaf_entries, leaf_size, GoodLeaves};
 
-use crate::leaf::{LEAF, encode};
-use crate::pages::{Pages, whole_leaves};
-use journal::{Entry, FilingRefusal, Journal, Pair, PostingId, Reading, is_entry};
+use crate::leaf::{LEAF, count_on, encode, given_on, hand_on, identity_on, pair_on, void_on};
+use crate::pages::leaves_in;
+use journal::{Entry, FilingRefusal, Journal, MAX_ENTRIES, Pair, PostingId, Reading, is_entry};
 
 // A journal in bytes: whole leaves of 160 bytes, the first 4,096 of them or all if they are fewer.
 #[derive(Drop)]
@@ -29,14 +31,11 @@ impl<'a> Leaves<'a> {
         Leaves { bytes, used: 0 }
     }
 
-    fn pages(&self) -> Pages<'_>
-        ensures bytes { result.bytes.now ≡ self.now.bytes.now }
-        ensures used { result.used ≡ self.now.used }
+    // The leaf of entry `k`.
+    fn leaf(&self, k: usize) -> Option<&[u8; LEAF]>
+        ensures { option_map (λ leaf. entry_on leaf.now) result ≡ slice_get (leaf_entries self.now) k }
     {
-        Pages {
-            bytes: self.bytes,
-            used: self.used,
-        }
+        leaves_in(self.bytes, self.used).get(k)
     }
 
     // The leaves in use, as they can be kept or sent: a closed book of the same entries.
@@ -56,35 +55,35 @@ impl<'a> Reading for Leaves<'a> {
     ghost size = { leaf_size };
 
     fn length(&self) -> usize {
-        self.pages().length()
+        leaves_in(self.bytes, self.used).len()
     }
 
     fn size(&self) -> usize {
-        whole_leaves(self.bytes)
+        leaves_in(self.bytes, MAX_ENTRIES).len()
     }
 
     fn identity(&self, k: usize) -> Option<PostingId> {
-        self.pages().identity(k)
+        self.leaf(k).map(identity_on)
     }
 
     fn void(&self, k: usize) -> Option<bool> {
-        self.pages().void(k)
+        self.leaf(k).map(void_on)
     }
 
     fn hand(&self, k: usize) -> Option<i64> {
-        self.pages().hand(k)
+        self.leaf(k).map(hand_on)
     }
 
     fn count(&self, k: usize) -> Option<usize> {
-        self.pages().count(k)
+        self.leaf(k).map(count_on)
     }
 
     fn pair(&self, k: usize, j: usize) -> Option<Pair> {
-        self.pages().pair(k, j)
+        self.leaf(k).and_then(|leaf| pair_on(leaf, j))
     }
 
     fn given(&self, k: usize, account: u8) -> Option<i64> {
-        self.pages().given(k, account)
+        self.leaf(k).and_then(|leaf| given_on(leaf, account))
     }
 }
 
@@ -108,7 +107,7 @@ impl<'a> Journal for Leaves<'a> {
             return Err(FilingRefusal::Full);
         }
         let from = LEAF * length;
-        encode(e, &mut self.bytes[from..from + LEAF]);
+        self.bytes[from..from + LEAF].copy_from_slice(&encode(e));
         self.used = length + 1;
         Ok(())
     }

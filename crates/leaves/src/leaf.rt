@@ -1,9 +1,13 @@
 // An entry on a leaf of 160 bytes. Each field is written and read once.
-ghost use Rattle.std.specs.Prelude.{◌≡◌, ℕ, ◌+◌, ◌≤◌, length, drop, if◌then◌else◌, Decides, slice_index};
+ghost use Rattle.std.specs.Prelude.{◌≡◌, ℕ, ◌+◌, ◌*◌, ◌<◌, ◌≤◌, length, drop, replicate, Decides, slice_index};
+ghost use Rattle.std.specs.Option.{option_map_or};
+ghost use Rattle.std.specs.List.{flat_map, slice_get};
 ghost use Rattle.journal.specs.Entries.{posted};
-ghost use Rattle.leaves.specs.Leaf.{account_bytes, value_bytes, padded, head_of, leaf_of, signed_of, pairs_on, entry_on, IsLeaf, ReadsBack, WritesBack};
+ghost use Rattle.journal.specs.Readings.{id_of, given_in};
+ghost use Rattle.leaves.specs.Leaf.{account_bytes, value_bytes, signed_bytes, padded, leaf_of, signed_of, pairs_on, entry_on, IsLeaf, ReadsBack, WritesBack};
 
-use journal::{Entry, MAX_PAIRS, Pair, is_entry};
+use journal::{Entry, MAX_PAIRS, Pair, PostingId, is_entry};
+use std::array;
 
 // How many bytes a leaf has.
 pub const LEAF: usize = 160;
@@ -11,125 +15,150 @@ pub const LEAF: usize = 160;
 // How many of them stand before the accounts.
 const HEAD: usize = 16;
 
-fn void_mark(void: bool) -> u8
-    ensures { result ≡ (if void then 1 else 0) }
+// The accounts of the pairs, and then zeros.
+fn account_places(pairs: &[Pair]) -> [u8; MAX_PAIRS]
+    requires { length pairs.now ≤ 16 }
+    ensures { result ≡ padded 16 (account_bytes pairs.now) }
 {
-    if void { 1 } else { 0 }
+    array::from_fn(
+        |j|
+            ensures { result ≡ option_map_or (λ pair. pair.account) (slice_get pairs.entry.now j) 0 }
+        { pairs.get(j).map_or(0, |pair| pair.account) },
+    )
 }
 
-// The sixteen bytes before the accounts.
-fn put_head(e: &Entry, count: u8, head: &mut [u8])
-    requires counted { count ≡ length (posted e.now).pairs }
-    requires whole { length head.old ≡ 16 }
-    ensures { head.new ≡ head_of (posted e.now) }
+fn value_on_leaf(pair: &Pair) -> [u8; 8]
+    ensures { result ≡ signed_bytes pair.now.value }
 {
-    let n = e.number.to_be_bytes();
-    let h = e.hand.to_be_bytes();
-    let void = void_mark(e.void);
-    let bytes = [
-        e.house, void, count, 0, n[0], n[1], n[2], n[3], h[0], h[1], h[2], h[3], h[4], h[5], h[6],
-        h[7],
-    ];
-    head.copy_from_slice(&bytes);
+    pair.value.to_be_bytes()
 }
 
-fn put_accounts(pairs: &[Pair], places: &mut [u8])
-    requires few { length pairs.now ≤ 16 }
-    requires whole { length places.old ≡ 16 }
-    ensures { places.new ≡ padded 16 (account_bytes pairs.now) }
+// The values of the pairs, and then zeros.
+fn value_places(pairs: &[Pair]) -> [[u8; 8]; MAX_PAIRS]
+    requires { length pairs.now ≤ 16 }
+    ensures { flat_map (λ bytes. bytes) result ≡ padded 128 (value_bytes pairs.now) }
 {
-    places.fill(0);
-    for (j, pair) in pairs.iter().enumerate() {
-        places[j] = pair.account;
-    }
+    array::from_fn(
+        |j|
+            ensures { result ≡ option_map_or (λ pair. signed_bytes pair.value) (slice_get pairs.entry.now j) (replicate 8 0) }
+        { pairs.get(j).map_or([0; 8], value_on_leaf) },
+    )
 }
 
-fn put_values(pairs: &[Pair], places: &mut [u8])
-    requires few { length pairs.now ≤ 16 }
-    requires whole { length places.old ≡ 128 }
-    ensures { places.new ≡ padded 128 (value_bytes pairs.now) }
-{
-    places.fill(0);
-    for (j, pair) in pairs.iter().enumerate() {
-        let bytes = pair.value.to_be_bytes();
-        let at = 8 * j;
-        places[at..at + 8].copy_from_slice(&bytes);
-    }
-}
-
-// Puts an entry on a leaf.
-pub(crate) fn encode(e: &Entry, leaf: &mut [u8])
-    requires { length leaf.old ≡ 160 }
-    ensures { leaf.new ≡ leaf_of (posted e.now) }
+// The leaf of an entry.
+pub(crate) fn encode(e: &Entry) -> [u8; LEAF]
+    ensures { result ≡ leaf_of (posted e.now) }
 {
     let pairs = e.counted_pairs();
-    put_head(e, pairs.len() as u8, &mut leaf[0..16]);
-    put_accounts(pairs, &mut leaf[16..32]);
-    put_values(pairs, &mut leaf[32..160]);
+    let mut leaf = [0; LEAF];
+    leaf[0] = e.house;
+    leaf[1] = u8::from(e.void);
+    leaf[2] = pairs.len() as u8;
+    leaf[4..8].copy_from_slice(&e.number.to_be_bytes());
+    leaf[8..16].copy_from_slice(&e.hand.to_be_bytes());
+    leaf[16..32].copy_from_slice(&account_places(pairs));
+    leaf[32..160].copy_from_slice(value_places(pairs).as_flattened());
+    leaf
 }
 
-// The signed number in the eight bytes from a place on.
-pub(crate) fn read_i64(bytes: &[u8], at: usize) -> i64
-    requires { at + 8 ≤ length bytes.now }
-    ensures { result ≡ signed_of (drop at bytes.now) }
+// Which posting the entry is of.
+pub(crate) fn identity_on(leaf: &[u8; LEAF]) -> PostingId
+    ensures { result ≡ id_of (entry_on leaf.now) }
 {
-    i64::from_be_bytes([
-        bytes[at],
-        bytes[at + 1],
-        bytes[at + 2],
-        bytes[at + 3],
-        bytes[at + 4],
-        bytes[at + 5],
-        bytes[at + 6],
-        bytes[at + 7],
-    ])
+    PostingId {
+        house: leaf[0],
+        number: u32::from_be_bytes(leaf[4..8].try_into().unwrap()),
+    }
 }
 
-fn all_pairs(leaf: &[u8]) -> [Pair; MAX_PAIRS]
-    requires { length leaf.now ≡ 160 }
+pub(crate) fn void_on(leaf: &[u8; LEAF]) -> bool
+    ensures { result ≡ (entry_on leaf.now).void }
+{
+    leaf[1] == 1
+}
+
+pub(crate) fn hand_on(leaf: &[u8; LEAF]) -> i64
+    ensures { result ≡ (entry_on leaf.now).hand }
+{
+    i64::from_be_bytes(leaf[8..16].try_into().unwrap())
+}
+
+// How many pairs the entry has.
+pub(crate) fn count_on(leaf: &[u8; LEAF]) -> usize
+    ensures value { result ≡ length (entry_on leaf.now).pairs }
+    ensures few { result ≤ 16 }
+{
+    (leaf[2] as usize).min(MAX_PAIRS)
+}
+
+fn value_at(leaf: &[u8; LEAF], j: usize) -> i64
+    requires { j < 16 }
+    ensures { result ≡ signed_of (drop (32 + 8 * j) leaf.now) }
+{
+    let at = 32 + 8 * j;
+    i64::from_be_bytes(leaf[at..at + 8].try_into().unwrap())
+}
+
+// What stands at the place of pair `j`, be there a pair or padding.
+fn pair_at(leaf: &[u8; LEAF], j: usize) -> Pair
+    requires { j < 16 }
+    ensures { result ≡ record { account = slice_index leaf.now (16 + j); value = signed_of (drop (32 + 8 * j) leaf.now) } }
+{
+    Pair {
+        account: leaf[16 + j],
+        value: value_at(leaf, j),
+    }
+}
+
+// Pair `j` of the entry.
+pub(crate) fn pair_on(leaf: &[u8; LEAF], j: usize) -> Option<Pair>
+    ensures { result ≡ slice_get (entry_on leaf.now).pairs j }
+{
+    (j < count_on(leaf)).then(|| pair_at(leaf, j))
+}
+
+// The value that the entry gives the account.
+pub(crate) fn given_on(leaf: &[u8; LEAF], account: u8) -> Option<i64>
+    ensures { result ≡ given_in (entry_on leaf.now).pairs account }
+{
+    let accounts = &leaf[16..16 + count_on(leaf)];
+    let j = accounts.iter().position(|a| *a == account)?;
+    Some(value_at(leaf, j))
+}
+
+fn all_pairs(leaf: &[u8; LEAF]) -> [Pair; MAX_PAIRS]
     ensures { result ≡ pairs_on 16 (drop 16 leaf.now) (drop 32 leaf.now) }
 {
-    let mut pairs = [Pair {
-        account: 0,
-        value: 0,
-    }; MAX_PAIRS];
-    for j in 0..MAX_PAIRS {
-        pairs[j] = Pair {
-            account: leaf[16 + j],
-            value: read_i64(leaf, 32 + 8 * j),
-        };
-    }
-    pairs
+    array::from_fn(
+        |j|
+            requires { j < 16 }
+            ensures { result ≡ record { account = slice_index leaf.entry.now (16 + j); value = signed_of (drop (32 + 8 * j) leaf.entry.now) } }
+        { pair_at(leaf, j) },
+    )
 }
 
 // Reads a leaf.
-pub(crate) fn decode(leaf: &[u8]) -> Entry
-    requires { length leaf.now ≡ 160 }
+pub(crate) fn decode(leaf: &[u8; LEAF]) -> Entry
     ensures says { posted result ≡ entry_on leaf.now }
     ensures count { result.count ≡ slice_index leaf.now 2 }
 {
+    let PostingId { house, number } = identity_on(leaf);
     Entry {
-        house: leaf[0],
-        number: u32::from_be_bytes([leaf[4], leaf[5], leaf[6], leaf[7]]),
-        void: leaf[1] == 1,
-        hand: read_i64(leaf, 8),
+        house,
+        number,
+        void: void_on(leaf),
+        hand: hand_on(leaf),
         count: leaf[2],
         pairs: all_pairs(leaf),
     }
 }
 
 // Whether 160 bytes are the leaf of some entry: what they say is an entry, and its leaf has the same bytes.
-pub(crate) fn is_leaf(leaf: &[u8]) -> bool
-    requires { length leaf.now ≡ 160 }
+pub(crate) fn is_leaf(leaf: &[u8; LEAF]) -> bool
     ensures { Decides result (IsLeaf leaf.now) }
 {
     let e = decode(leaf);
-    if !is_entry(&e) {
-        return false;
-    }
-    let mut back = [0u8; LEAF];
-    encode(&e, &mut back);
-    leaf == &back[0..LEAF]
+    is_entry(&e) && encode(&e) == *leaf
 }
 
 // The laws of the leaf: its bytes are those of its parts, an entry reads back from its leaf, and a leaf is written back

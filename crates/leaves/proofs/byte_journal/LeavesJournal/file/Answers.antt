@@ -32,8 +32,8 @@ returns c =
     let ll = length_leaf (posted e) ok.lawful.few in
     let size = c.size.ensures.value in
     let room : 160 * n + 160 ≤ length bs = omega arith in
-    let after = put_mid (160 * n) ((160 * n + 160) - 160 * n) bs c.encode.new.leaf in
-    let put : after ≡ leaf_put bs n leaf = put_is bs c.encode.new.leaf leaf n c.encode.ensures in
+    let after = put_mid (160 * n) ((160 * n + 160) - 160 * n) bs c.copy_from_slice.new.self in
+    let put : after ≡ leaf_put bs n leaf = put_is bs c.copy_from_slice.new.self leaf n (c.copy_from_slice.ensures.after ∙ c.encode.ensures) in
     let same : length after ≡ length bs = ap length put ∙ length_put bs leaf n ll room in
     let more : leaves_used (n + 1) after ≡ n + 1 = omega arith in
     record {
