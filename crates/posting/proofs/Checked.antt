@@ -1,7 +1,7 @@
 -- The check of standing orders, and what it lets pass.
 use Rattle.std.proofs.Common.{◌≡◌, ℕ, zero, suc, ◌+◌, ◌≤◌, Bool, true, false, cond, ◌&&◌, not, leb, List, [], ◌∷◌, length, is_ok, Some, None, Err, Option, sym, refl, ◌∙◌, subst, arith}
 use Rattle.std.specs.List.{position_from}
-use Rattle.std.proofs.lemmas.Bool.{and_from, and_parts, le-leb, leb-true, cond-true, cond_both}
+use Rattle.std.proofs.lemmas.Bool.{and_from, and_parts, false≢true, le-leb, leb-true, cond-true, cond_both}
 use Rattle.std.proofs.lemmas.Iterator.Adapters.{position_from-zero}
 use Rattle.posting.specs.Standing.{good_order, first_bad, refused_at, orders_checked, orders_kept, order_at}
 use Rattle.posting.specs.declared.standing_order.StandingOrder.{StandingOrder}
@@ -26,8 +26,8 @@ good_at k (o ∷ os) e (suc house) = good_at (k + 1) os (none_parts (good_order 
 
 ok_parts : (b : Bool) (bad : Option ℕ) → is_ok (cond b (refused_at bad) (Err NotOneToSixteen)) ≡ true → (b ≡ true) × (bad ≡ None)
 ok_parts true None e = (refl, refl)
-ok_parts true (Some k) e = absurd (let z : ◌≡◌ {A = ℕ} 0 1 = cc in omega arith)
-ok_parts false bad e = absurd (let z : ◌≡◌ {A = ℕ} 0 1 = cc in omega arith)
+ok_parts true (Some k) e = absurd (false≢true e)
+ok_parts false bad e = absurd (false≢true e)
 
 passed : (os : List StandingOrder) → is_ok (orders_checked os) ≡ true → (length os ≤ 16) × ((house : ℕ) → good_order (order_at os house) ≡ true)
 passed os e =

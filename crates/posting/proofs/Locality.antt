@@ -1,5 +1,6 @@
 -- A posting depends on the balances only at its reads.
-use Rattle.std.proofs.Common.{◌≡◌, ℕ, zero, suc, ◌+◌, ◌<◌, Bool, true, List, [], ◌∷◌, length, get_or, set, ℤ, Some, None, Option, refl, ap, ◌∙◌, arith, length-set}
+use Rattle.std.proofs.Common.{◌≡◌, ℕ, zero, suc, ◌+◌, ◌<◌, Bool, true, false, List, [], ◌∷◌, length, get_or, set, ℤ, Some, None, Option, refl, ap, ◌∙◌, arith, length-set}
+use Rattle.std.proofs.lemmas.List.{get_or-set_same}
 use Rattle.posting.specs.Sources.{Meaning, OrderKept, Limits}
 use Rattle.posting.specs.Alone.{Outcome, sought, noted, told, carried, line_of, after, worked, blank, Among, Local}
 use Rattle.posting.specs.declared.order.Order.{Order}
@@ -14,11 +15,6 @@ set_keeps (b ∷ bs) zero zero h = refl
 set_keeps (b ∷ bs) zero (suc a) h = h
 set_keeps (b ∷ bs) (suc i) zero h = h
 set_keeps (b ∷ bs) (suc i) (suc a) h = set_keeps bs i a h
-
-set_makes : (bs : List Bool) (i : ℕ) → i < length bs → Among (set bs i true) i
-set_makes [] i h = absurd (omega arith)
-set_makes (b ∷ bs) zero h = refl
-set_makes (b ∷ bs) (suc i) h = set_makes bs i (omega arith)
 
 told_reads : (hand : Option ℤ) (s : Sheet) → (told hand s).1.reads ≡ s.reads
 told_reads None s = refl
@@ -61,7 +57,7 @@ read_same :
     → told (found (sought w (these i))) (noted w i s) ≡ told (found (sought w (those i))) (noted w i s)
 read_same (Some value) i found these those s lt h = refl
 read_same None i found these those s lt h =
-    ap (λ x. told (found x) (noted None i s)) (h i (rw (told_reads (found (these i)) (noted None i s)) (set_makes s.reads i lt)))
+    ap (λ x. told (found x) (noted None i s)) (h i (rw (told_reads (found (these i)) (noted None i s)) (get_or-set_same s.reads i true false lt)))
 
 carried_same :
     (o : Order) (found : ℤ → Option ℤ) (these those : ℕ → ℤ) (s : Sheet) → OrderKept o → length s.reads ≡ 64

@@ -24,7 +24,7 @@ good_parts o h =
     let c = and_parts (in_range o.floor) (leb o.times 4096) b.1 in
     record { from = leb-true _ _ a.0; to = leb-true _ _ b.0; floor = leb-true _ _ c.0; times = leb-true _ _ c.1 }
 
-pub order_kept : (o : StandingOrder) (line : ℕ) (hand : ℤ) → good_order o ≡ true → InRange hand → OrderKept (line_order o line hand)
+order_kept : (o : StandingOrder) (line : ℕ) (hand : ℤ) → good_order o ≡ true → InRange hand → OrderKept (line_order o line hand)
 order_kept o line hand e h =
     let good = good_parts o e in
     cond_both (eqb line 0) (Read o.from) _ OrderKept (λ e. good.from)

@@ -1,5 +1,6 @@
 // The order that one line of a posting gives.
 ghost use Rattle.std.specs.Prelude.{◌≡◌};
+ghost use Rattle.posting.specs.Sources.{OrderKept, HandKept};
 ghost use Rattle.posting.specs.Standing.{go_on as order_to_go_on, next_hand};
 
 use journal::in_range;
@@ -23,7 +24,8 @@ pub enum Order {
 impl Order {
     // The order to take up this hand, or void if it is out of range.
     pub fn go_on(hand: i64) -> Order
-        ensures { result ≡ order_to_go_on hand }
+        ensures value { result ≡ order_to_go_on hand }
+        ensures kept { OrderKept result }
     {
         next_hand(hand).map_or(Order::Void, |hand| Order::GoOn { hand })
     }
@@ -31,7 +33,8 @@ impl Order {
 
 // This hand, or none if it is out of range.
 pub fn next_hand(hand: i64) -> Option<i64>
-    ensures { result ≡ next_hand hand }
+    ensures value { result ≡ next_hand hand }
+    ensures kept { HandKept result }
 {
     in_range(hand).then_some(hand)
 }

@@ -29,12 +29,12 @@ fn kept(orders: &[StandingOrder]) -> &[StandingOrder]
 }
 
 // The order that a line gives: what is above the floor moves from one account to the other.
-#[tactic(auto, using(crate::proofs::StandingLimits::order_kept))]
 fn line_order(o: StandingOrder, line: usize, hand: i64) -> Order
     requires { (good_order o ≡ true) × (InRange hand) }
     ensures value { result ≡ line_order o line hand }
     ensures kept { OrderKept result }
 {
+    // To every source a line is a number, and this match is what each of them means here.
     match line {
         0 => Order::Read { account: o.from },
         1 => {
