@@ -1,10 +1,8 @@
 // A source of postings that a customer writes.
-ghost use Rattle.std.specs.Prelude.{◌≡◌};
-ghost use Rattle.posting.specs.Sources.{asked};
 ghost use Rattle.posting_tests.specs.Copying.{copying};
 
 use journal::in_range;
-use posting::{Order, Source};
+use posting::{Order, Question, Source};
 
 const LINES: usize = 2;
 
@@ -15,21 +13,9 @@ const ORIGINAL: u8 = 1;
 const COPY: u8 = 2;
 
 // One house, with so many postings, at most 4,096, that copy the balance of account 1 to account 2.
-#[derive(Clone, Copy)]
+#[derive(Clone, Copy, Debug, PartialEq, Eq)]
 pub struct Copies {
     pub times: u32,
-}
-
-impl Copies {
-    fn is_asked(&self, house: u8, number: u32, line: usize, hand: i64) -> bool
-        ensures { result ≡ asked (copying self.now.times) house number line hand }
-    {
-        house == 0
-            && 1 <= number
-            && number <= self.times.min(MAX_POSTINGS)
-            && line < LINES
-            && in_range(hand)
-    }
 }
 
 impl Source for Copies {
@@ -37,6 +23,7 @@ impl Source for Copies {
 
     ghost meaning = { λ s. copying s.times };
 
+    #[tactic(auto, using(crate::proofs::CopyLimits::copying_limits))]
     fn longest_posting(&self) -> usize {
         Self::LONGEST
     }
@@ -53,23 +40,21 @@ impl Source for Copies {
         }
     }
 
-    fn order(&self, house: u8, number: u32, line: usize, hand: i64) -> Order {
-        if !self.is_asked(house, number, line, hand) {
+    fn order(&self, question: Question) -> Order {
+        if !self.is_asked(question) {
             return Order::Void;
         }
-        if line == 0 {
+        if question.line == 0 {
             return Order::Read { account: ORIGINAL };
         }
         Order::Write {
             account: COPY,
-            value: hand,
+            value: question.hand,
         }
     }
 
-    fn found(&self, house: u8, number: u32, line: usize, hand: i64, value: i64) -> Option<i64> {
-        if !self.is_asked(house, number, line, hand) || !in_range(value) {
-            return None;
-        }
-        if line == 0 { Some(value) } else { None }
+    fn found(&self, question: Question, value: i64) -> Option<i64> {
+        let is_found = question.line == 0 && in_range(value) && self.is_asked(question);
+        is_found.then_some(value)
     }
 }

@@ -11,7 +11,7 @@ const GOOD: StandingOrder = StandingOrder {
 fn told(orders: &[StandingOrder]) -> (u8, usize) {
     match check_orders(orders) {
         Ok(()) => (0, 0),
-        Err(refusal) => (refusal.number(), refusal.place()),
+        Err(refusal) => (u8::from(refusal), refusal.place()),
     }
 }
 
