@@ -101,7 +101,7 @@ seen_ordered (o ∷ xs) past = seen_ordered xs (Orders o ∷ past)
 
 orders_more : (t : Sizes) (houses : ℕ) (ps : List Posting) (os xs : List OrderLine) (past : List Item) → Built t houses ps os past → stage_after past ≡ Drafting
     → lines_after past + length xs ≤ 16 → length os + length xs ≤ t.orders → lines_in_range xs ≡ true → Built t houses ps (os ++ xs) (ordered xs past)
-unfolding ordered lines_in_range
+unfolding ordered
 orders_more t houses ps os [] past b s l h r = subst (λ y. Built t houses ps y past) (sym (append-nil os)) b
 orders_more t houses ps os (o ∷ xs) past b s l h r =
     let a = and_parts (line_in_range o) _ r in

@@ -2,6 +2,7 @@
 use Rattle.std.proofs.Common.{◌≡◌, ℕ, suc, ◌+◌, ◌-◌, ◌<◌, ◌≤◌, true, eqb, ltb, leb, List, [], ◌∷◌, ◌++◌, length, sym, refl, ap, ◌∙◌, subst, ⊎_elim, arith}
 use Rattle.std.proofs.lemmas.List.{append-nil, length-append}
 use Rattle.std.proofs.lemmas.Bool.{and_parts, and_from, eqb-true, eqb-false, le-leb, lt-ltb, cases_Bool, cond-true, cond-false}
+use Rattle.std.proofs.lemmas.List.Folds.{list_all-append}
 use Rattle.batch.specs.declared.records.Posting.{Posting}
 use Rattle.batch.specs.declared.records.OrderLine.{OrderLine}
 use Rattle.batch.specs.declared.items.Item.{Item}
@@ -39,9 +40,7 @@ allowed_push houses s (p ∷ ps) q h a =
     and_from (allows houses s p) _ b.0 (allowed_push houses (reached_with s p) ps q b.1 a)
 
 pub range_push : (os : List OrderLine) (o : OrderLine) → lines_in_range os ≡ true → line_in_range o ≡ true → lines_in_range (os ++ (o ∷ [])) ≡ true
-unfolding lines_in_range
-range_push [] o h r = and_from (line_in_range o) true r refl
-range_push (x ∷ os) o h r = let b = and_parts (line_in_range x) _ h in and_from (line_in_range x) _ b.0 (range_push os o b.1 r)
+range_push os o h r = list_all-append line_in_range os (o ∷ []) ∙ and_from (lines_in_range os) (lines_in_range (o ∷ [])) h (and_from (line_in_range o) true r refl)
 
 pub allows_from : (houses : ℕ) (s : Reached) (p : Posting) → s.first ≤ p.first → p.first - s.first ≤ s.most → s.house ≤ p.house → p.house < houses → here_with s p ≤ 4096
     → allows houses s p ≡ true
@@ -63,7 +62,7 @@ pub record Even (houses seen here lines : ℕ) (ps : List Posting) (os : List Or
   pub ranged : lines_in_range os ≡ true
 
 even_start : (houses : ℕ) → 1 ≤ houses → Even houses 0 0 0 [] []
-unfolding all_allowed last_reached lines_in_range
+unfolding all_allowed last_reached
 even_start houses h = record {
   some = h;
   came = omega arith;

@@ -1,14 +1,15 @@
 -- The test of records says that they are in order.
 use Rattle.std.proofs.Common.{◌≡◌, ℕ, zero, suc, ◌+◌, ◌-◌, ◌<◌, ◌≤◌, Bool, true, false, cond, eqb, leb, List, [], ◌∷◌, length, get_or, drop, Decides, sym, refl, ap, ◌∙◌, ⊎_elim, add-one, arith}
 use Rattle.std.proofs.lemmas.Bool.{and_parts, and_from, leb-true, le-leb, eqb-true, eqb-false, eq-eqb, ne_eqb, cases_Bool, cond-true, cond-false}
+use Rattle.std.proofs.lemmas.List.Elements.{All-from_get_or}
+use Rattle.std.proofs.lemmas.List.Sums.{AllPass-from_list_all, list_all-from_AllPass}
 use Rattle.batch.specs.declared.records.Posting.{Posting}
 use Rattle.batch.specs.declared.records.OrderLine.{OrderLine}
 use Rattle.batch.specs.declared.records.OrderLine.TheVariants.{Take}
-use Rattle.batch.specs.Limits.{Ordered}
 use Rattle.batch.specs.Texts.{first_of}
 use Rattle.batch_table.specs.declared.in_order.Reached.{Reached}
 use Rattle.batch_table.specs.InOrder.{unbegun, ends_at, here_with, allows, reached_with, all_allowed, last_reached, records_in_order, from_a_batch}
-use Rattle.batch_table.specs.OrderLines.{line_in_range, lines_in_range}
+use Rattle.batch_table.specs.OrderLines.{line_in_range}
 use Rattle.batch_table.specs.Orderly.{posting_at, end_at, Orderly}
 use Rattle.batch_table.specs.TableSource.{postings_of}
 use Rattle.batch_table.proofs.GivenRecords.{allows_from}
@@ -41,12 +42,6 @@ lines_few houses s [] end k h e l = absurd (omega arith)
 lines_few houses s (p ∷ ps) end zero h e l = next_few houses (reached_with s p) ps end (all_parts houses s p ps h).1 e
 lines_few houses s (p ∷ ps) end (suc k) h e l = lines_few houses (reached_with s p) ps end k (all_parts houses s p ps h).1 e (omega arith)
 
-range_at : (os : List OrderLine) (k : ℕ) → lines_in_range os ≡ true → k < length os → line_in_range (get_or os k (Take 0)) ≡ true
-unfolding lines_in_range
-range_at [] k h l = absurd (omega arith)
-range_at (o ∷ os) zero h l = (and_parts (line_in_range o) _ h).0
-range_at (o ∷ os) (suc k) h l = range_at os k (and_parts (line_in_range o) _ h).1 (omega arith)
-
 passes_orderly : (houses : ℕ) (ps : List Posting) (os : List OrderLine) → from_a_batch houses ps os ≡ true → Orderly houses ps os
 passes_orderly houses ps os h =
     let a = and_parts (leb 1 houses) _ h in
@@ -64,7 +59,7 @@ passes_orderly houses ps os h =
           let few = lines_few houses unbegun ps (length os) k parts.allowed parts.ended l in
           let end : end_at ps os k ≡ first_of (drop (suc k) ps) (length os) = ap (λ n. first_of (drop n ps) (length os)) (add-one k) in
           (omega arith, omega arith));
-      ranged = λ k l. range_ordered (get_or os k (Take 0)) (range_at os k parts.ranged l);
+      ranged = λ k l. range_ordered (get_or os k (Take 0)) (AllPass-from_list_all line_in_range os parts.ranged k (Take 0) l);
     }
 
 -- the count of records of a house with those still to come
@@ -128,11 +123,6 @@ onward_passes houses s (p ∷ ps) os o =
     let here = allows_from houses s p o.first o.few (o.from 0 (omega arith)) (o.below 0 (omega arith)) (here_few s p ps os o.counts) in
     (and_from (allows houses s p) _ here rest.0, rest.1)
 
-range_from : (os : List OrderLine) → ((k : ℕ) → k < length os → Ordered (get_or os k (Take 0))) → lines_in_range os ≡ true
-unfolding lines_in_range
-range_from [] h = refl
-range_from (o ∷ os) h = and_from (line_in_range o) _ (ordered_range o (h 0 (omega arith))) (range_from os (λ k l. h (suc k) (omega arith)))
-
 orderly_passes : (houses : ℕ) (ps : List Posting) (os : List OrderLine) → Orderly houses ps os → from_a_batch houses ps os ≡ true
 orderly_passes houses ps os o =
     let onward : Onward houses unbegun ps os = record {
@@ -148,8 +138,10 @@ orderly_passes houses ps os o =
           (omega arith, omega arith));
     } in
     let passes = onward_passes houses unbegun ps os onward in
+    let ranged = list_all-from_AllPass line_in_range os
+    (All-from_get_or (λ x. line_in_range x ≡ true) os (Take 0) (λ k l. ordered_range (get_or os k (Take 0)) (o.ranged k l))) in
     and_from (leb 1 houses) _ (le-leb 1 houses o.some) (and_from (leb houses 16) _ (le-leb houses 16 o.few)
-    (and_from (records_in_order houses ps (length os)) _ (and_from (all_allowed houses unbegun ps) _ passes.0 passes.1) (range_from os o.ranged)))
+    (and_from (records_in_order houses ps (length os)) _ (and_from (all_allowed houses unbegun ps) _ passes.0 passes.1) ranged))
   where
     none_here : (h : ℕ) → ◌≡◌ {A = ℕ} (cond (eqb 0 h) 0 0) 0
     none_here h = same (eqb 0 h)

@@ -1,3 +1,4 @@
+mod Starts
 pub mod Orderly
 pub mod TableLimits
 pub mod TableLines

@@ -2,6 +2,7 @@
 use Rattle.std.proofs.Common.{◌≡◌, ℕ, zero, suc, ◌+◌, ◌-◌, ◌<◌, ◌≤◌, Bool, true, false, cond, ◌&&◌, eqb, ltb, leb, List, [], ◌∷◌, length, get_or, drop, sym, refl, ap, ◌∙◌, ⊎_elim, arith}
 use Rattle.std.proofs.lemmas.List.{at_drop_more, at_drop_all}
 use Rattle.std.proofs.lemmas.Bool.{and_parts, leb-true, ltb-true, eqb-true, eqb-false, eq-eqb, ne_eqb, lt-ltb, le-ltb, ltb-false, cases_Bool, cond-true, cond-false}
+use Rattle.std.proofs.lemmas.List.Sums.{sum_by-cons}
 use Rattle.batch.specs.declared.records.Posting.{Posting}
 use Rattle.batch.specs.declared.records.OrderLine.{OrderLine}
 use Rattle.batch.specs.Texts.{first_of, between}
@@ -69,13 +70,14 @@ pub of_none : (h : ℕ) (os : List OrderLine) → postings_of h [] os ≡ []
 unfolding postings_of
 of_none h os = refl
 
+before_more : (h : ℕ) (p : Posting) (ps : List Posting) → before h (p ∷ ps) ≡ cond (ltb p.house h) 1 0 + before h ps
+before_more h p ps = sum_by-cons _ p ps
+
 pub before_lower : (h : ℕ) (p : Posting) (ps : List Posting) → p.house < h → before h (p ∷ ps) ≡ suc (before h ps)
-unfolding before
-before_lower h p ps l = omega (arith, cond-true {A = ℕ} (ltb p.house h) 1 0 (lt-ltb p.house h l))
+before_lower h p ps l = omega (arith, before_more h p ps, cond-true {A = ℕ} (ltb p.house h) 1 0 (lt-ltb p.house h l))
 
 pub before_other : (h : ℕ) (p : Posting) (ps : List Posting) → h ≤ p.house → before h (p ∷ ps) ≡ before h ps
-unfolding before
-before_other h p ps l = omega (arith, cond-false {A = ℕ} (ltb p.house h) 1 0 (le-ltb p.house h l))
+before_other h p ps l = omega (arith, before_more h p ps, cond-false {A = ℕ} (ltb p.house h) 1 0 (le-ltb p.house h l))
 
 -- among houses that do not fall from here, none is lower
 
@@ -84,7 +86,6 @@ none_lower h low [] os l r = of_none h os
 none_lower h low (p ∷ ps) os l r = of_other h p ps os (ne_eqb p.house h (λ e. omega (arith, r.0))) ∙ none_lower h p.house ps os (omega (arith, r.0)) r.1
 
 before_none : (h low : ℕ) (ps : List Posting) → h ≤ low → Rising low ps → before h ps ≡ 0
-unfolding before
 before_none h low [] l r = refl
 before_none h low (p ∷ ps) l r = before_other h p ps (omega (arith, r.0)) ∙ before_none h p.house ps (omega (arith, r.0)) r.1
 
@@ -182,10 +183,10 @@ length_one true x xs = omega arith
 length_one false x xs = omega arith
 
 pub counted : (h : ℕ) (ps : List Posting) (os : List OrderLine) → before (suc h) ps ≡ before h ps + length (postings_of h ps os)
-unfolding before postings_of
+unfolding postings_of
 counted h [] os = refl
 counted h (p ∷ ps) os =
-    omega (arith, counted h ps os, one_more p.house h, length_one (eqb p.house h) (between p.first (first_of ps (length os)) os) (postings_of h ps os))
+    omega (arith, counted h ps os, before_more h p ps, before_more (suc h) p ps, one_more p.house h, length_one (eqb p.house h) (between p.first (first_of ps (length os)) os) (postings_of h ps os))
 
 -- a house beyond the houses has none
 pub absent : (houses h : ℕ) (s : Reached) (ps : List Posting) (os : List OrderLine) → houses ≤ h → all_allowed houses s ps ≡ true → postings_of h ps os ≡ []
@@ -262,13 +263,3 @@ order_step houses end s ps i b h e =
 pub order_all : (houses end : ℕ) (s : Reached) (ps : List Posting) (i : ℕ) → length ps ≤ i → ends_at s end ≡ order_from houses end s (drop i ps)
 unfolding all_allowed last_reached
 order_all houses end s ps i h = sym (at_drop_all (order_from houses end s) ps i h)
-
--- how many have a lower house, one record after the other
-
-pub before_step : (h : ℕ) (ps : List Posting) (i : ℕ) → i < length ps → before h (drop i ps) ≡ cond (ltb (posting_at ps i).house h) 1 0 + before h (drop (i + 1) ps)
-unfolding before
-before_step h ps i l = at_drop_more (before h) ps i _ l
-
-pub before_all : (h : ℕ) (ps : List Posting) (i : ℕ) → length ps ≤ i → before h (drop i ps) ≡ 0
-unfolding before
-before_all h ps i l = at_drop_all (before h) ps i l

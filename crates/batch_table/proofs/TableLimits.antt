@@ -1,9 +1,12 @@
 -- The records of a batch keep the limits of a source.
-use Rattle.std.proofs.Common.{◌≡◌, ℕ, zero, suc, ◌+◌, ◌-◌, ◌<◌, ◌≤◌, Bool, true, false, ◌&&◌, eqb, List, [], ◌∷◌, length, get_or, take, drop, ℤ, ◌+ℤ◌, Some, None, Option, sym, refl, ap, ◌∙◌, ⊎_elim, arith}
+use Rattle.std.proofs.Common.{◌≡◌, ℕ, zero, suc, ◌-◌, ◌≤◌, true, false, ltb, eqb, List, [], ◌∷◌, length, get_or, drop, ℤ, ◌+ℤ◌, Some, None, Option, sym, refl, ap, ◌∙◌, ⊎_elim, subst, arith}
 use lib.Signed.{le_z}
+use denote.Ref.{Bor}
 use Rattle.std.specs.List.{slice_get}
-use Rattle.std.proofs.lemmas.List.{at_drop_more, at_drop_all}
-use Rattle.std.proofs.lemmas.Bool.{and_parts, and_from, leb-true, le-leb, both_ways, cases_Bool, cond_both}
+use Rattle.std.specs.Option.{is_some, option_copied, IfSome}
+use Rattle.std.proofs.lemmas.List.Elements.{All-take, All-drop}
+use Rattle.std.proofs.lemmas.List.Sums.{AllPass-from_list_all, list_all-from_AllPass}
+use Rattle.std.proofs.lemmas.Bool.{and_parts, leb-true, ltb-true, le-leb, both_ways, cases_Bool, cond_both}
 use Rattle.journal.specs.Entries.{InRange, in_range}
 use Rattle.posting.specs.Sources.{OrderKept, HandKept, is_read, Limits}
 use Rattle.posting.specs.declared.order.Order.TheVariants as order
@@ -20,27 +23,13 @@ use Rattle.batch_table.proofs.Orderly.{of_same, of_other, of_none, absent, few_p
 
 -- parts of order lines in range are in range
 
-range_drop : (n : ℕ) (os : List OrderLine) → lines_in_range os ≡ true → lines_in_range (drop n os) ≡ true
-unfolding lines_in_range
-range_drop zero os h = h
-range_drop (suc n) [] h = h
-range_drop (suc n) (o ∷ os) h = range_drop n os (and_parts (line_in_range o) _ h).1
-
-range_take : (n : ℕ) (os : List OrderLine) → lines_in_range os ≡ true → lines_in_range (take n os) ≡ true
-unfolding lines_in_range
-range_take zero os h = refl
-range_take (suc n) [] h = h
-range_take (suc n) (o ∷ os) h = let a = and_parts (line_in_range o) _ h in and_from (line_in_range o) _ a.0 (range_take n os a.1)
-
 pub range_between : (a b : ℕ) (os : List OrderLine) → lines_in_range os ≡ true → lines_in_range (between a b os) ≡ true
-range_between a b os h = range_take (b - a) (drop a os) (range_drop a os h)
-
-range_none : lines_in_range [] ≡ true
-unfolding lines_in_range
-range_none = refl
+range_between a b os h =
+    list_all-from_AllPass line_in_range (between a b os)
+    (All-take (λ o. line_in_range o ≡ true) (b - a) (drop a os) (All-drop (λ o. line_in_range o ≡ true) a os (AllPass-from_list_all line_in_range os h)))
 
 pub range_of : (h k : ℕ) (ps : List Posting) (os : List OrderLine) → lines_in_range os ≡ true → lines_in_range (get_or (postings_of h ps os) k []) ≡ true
-range_of h k [] os r = ap (λ l. lines_in_range (get_or l k [])) (of_none h os) ∙ range_none
+range_of h k [] os r = ap (λ l. lines_in_range (get_or l k [])) (of_none h os)
 range_of h zero (p ∷ ps) os r =
     ⊎_elim
     (λ same. ap (λ l. lines_in_range (get_or l 0 [])) (of_same h p ps os same) ∙ range_between p.first (first_of ps (length os)) os r)
@@ -55,14 +44,19 @@ range_of h (suc k) (p ∷ ps) os r =
 -- a line that there is, is in range
 
 abbrev pub RangedLine : Option OrderLine → Type 0
-RangedLine None = Unit {0}
-RangedLine (Some o) = line_in_range o ≡ true
+RangedLine line = IfSome line (λ o. line_in_range o ≡ true)
 
 pub range_nth : (os : List OrderLine) (i : ℕ) → lines_in_range os ≡ true → RangedLine (slice_get os i)
-unfolding lines_in_range
 range_nth [] i h = tt
 range_nth (o ∷ os) zero h = (and_parts (line_in_range o) _ h).0
 range_nth (o ∷ os) (suc i) h = range_nth os i (and_parts (line_in_range o) _ h).1
+
+-- also one that is copied out of the list
+pub ranged_copy : (os : List OrderLine) (i : ℕ) (got : Option (Bor OrderLine)) (copy : Option OrderLine) → lines_in_range os ≡ true → is_some got ≡ ltb i (length os)
+    → IfSome got (λ x. x.now ≡ get_or os i x.now) → copy ≡ option_copied got → RangedLine copy
+ranged_copy os i None copy r there is e = subst RangedLine (sym e) tt
+ranged_copy os i (Some x) copy r there is e =
+    subst RangedLine (sym e) (ap line_in_range is ∙ AllPass-from_list_all line_in_range os r i x.now (ltb-true i (length os) (sym there)))
 
 -- what a line does keeps the limits
 
@@ -115,17 +109,8 @@ table_limits houses ps os few good = limits_outside _ record {
   unread = λ house number line hand value e. unread (slice_get (lines_of house number ps os) line) hand value e;
 }
 
--- one order line after the other
-
-pub range_step : (b : Bool) (os : List OrderLine) (i : ℕ) → i < length os → b ≡ line_in_range (get_or os i (Take 0)) → (b && lines_in_range (drop (i + 1) os)) ≡ lines_in_range (drop i os)
-unfolding lines_in_range
-range_step b os i h e = ap (λ (x : Bool). x && lines_in_range (drop (i + 1) os)) e ∙ sym (at_drop_more lines_in_range os i _ h)
-
-pub range_all : (os : List OrderLine) (i : ℕ) → length os ≤ i → true ≡ lines_in_range (drop i os)
-range_all os i h = sym (at_drop_all lines_in_range os i h ∙ range_none)
-
 pub none_in_order : in_order 0 [] [] ≡ true
-unfolding all_allowed last_reached lines_in_range
+unfolding all_allowed last_reached
 none_in_order = refl
 
 -- an order line is in range by test and in words

@@ -1,5 +1,6 @@
 -- What an order line does, and which order lines there are.
-use Rattle.std.specs.Prelude.{Bool, true, cond, ◌&&◌, List, [], ◌∷◌, ℤ, ◌+ℤ◌, Some, None, Option, int_le, nat_le}
+use Rattle.std.specs.Prelude.{Bool, cond, List, ℤ, ◌+ℤ◌, Some, None, Option, int_le, nat_le}
+use Rattle.std.specs.List.{list_all}
 use Rattle.journal.specs.Entries.{in_range}
 use Rattle.posting.specs.Standing.{go_on, next_hand}
 use Rattle.posting.specs.declared.order.Order.{Order}
@@ -45,6 +46,5 @@ line_in_range (Raise v) = in_range v
 line_in_range (Need v) = in_range v
 line_in_range (Write a) = nat_le a 63
 
-unfoldable pub lines_in_range : List OrderLine → Bool
-lines_in_range [] = true
-lines_in_range (o ∷ os) = line_in_range o && lines_in_range os
+abbrev pub lines_in_range : List OrderLine → Bool
+lines_in_range os = list_all line_in_range os

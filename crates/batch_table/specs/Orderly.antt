@@ -4,8 +4,8 @@ use Rattle.batch.specs.declared.records.Posting.{Posting}
 use Rattle.batch.specs.declared.records.OrderLine.{OrderLine}
 use Rattle.batch.specs.declared.records.OrderLine.TheVariants.{Take}
 use Rattle.batch.specs.Limits.{Ordered}
-use Rattle.batch.specs.Texts.{first_of}
-use Rattle.batch_table.specs.TableSource.{postings_of}
+use Rattle.batch.specs.Texts.{first_of, between}
+use Rattle.batch_table.specs.TableSource.{postings_of, lines_of}
 
 abbrev pub posting_at : List Posting → ℕ → Posting
 posting_at ps k = get_or ps k record { house = 0; first = 0 }
@@ -13,6 +13,13 @@ posting_at ps k = get_or ps k record { house = 0; first = 0 }
 -- where the order lines of record k end
 abbrev pub end_at : List Posting → List OrderLine → ℕ → ℕ
 end_at ps os k = first_of (drop (k + 1) ps) (length os)
+
+-- the record of a posting stands here, and its order lines are those up to where they end
+pub record StandsAt (house number k : ℕ) (ps : List Posting) (os : List OrderLine) : Type 0 where
+  pub within : k < length ps
+  pub from : (posting_at ps k).first ≤ end_at ps os k
+  pub to : end_at ps os k ≤ length os
+  pub lines : lines_of house number ps os ≡ between (posting_at ps k).first (end_at ps os k) os
 
 -- there are 1 to 16 houses; those of the records are below that number and never fall, and no house has more than 4,096 records;
 -- the order lines begin with the first record's, and each record has at most 16; every order line is in range

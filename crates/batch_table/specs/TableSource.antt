@@ -1,5 +1,5 @@
 -- The records of postings and order lines as a source of postings.
-use Rattle.std.specs.Prelude.{ℕ, ◌+◌, ◌-◌, cond, List, [], ◌∷◌, length, ◌==◌, nat_lt, slice_index_or}
+use Rattle.std.specs.Prelude.{ℕ, ◌-◌, cond, count_by, List, [], ◌∷◌, length, ◌==◌, nat_lt, slice_index_or}
 use Rattle.std.specs.List.{slice_get}
 use Rattle.posting.specs.Sources.{Meaning, void_outside}
 use Rattle.batch.specs.declared.records.Posting.{Posting}
@@ -20,9 +20,8 @@ abbrev pub lines_of : ℕ → ℕ → List Posting → List OrderLine → List O
 lines_of house number ps os = slice_index_or (postings_of house ps os) (number - 1) []
 
 -- how many records have a lower house
-unfoldable pub before : ℕ → List Posting → ℕ
-before house [] = 0
-before house (p ∷ ps) = cond (nat_lt p.house house) 1 0 + before house ps
+abbrev pub before : ℕ → List Posting → ℕ
+before house ps = count_by (λ p. nat_lt p.house house) ps
 
 -- what the records mean
 abbrev pub table_source : ℕ → List Posting → List OrderLine → Meaning

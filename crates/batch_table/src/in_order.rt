@@ -8,12 +8,13 @@ use crate::order_lines::lines_in_range;
 use batch::{MOST_HOUSES, MOST_LINES, MOST_POSTINGS, OrderLine, Posting};
 
 // How far records of postings are in order.
-#[derive(Clone, Copy)]
+#[derive(Clone, Copy, Debug, PartialEq, Eq)]
 pub struct Reached {
     // The house of the last record, and how many records of it have come.
     pub house: u8,
     pub here: usize,
-    // Where the order lines of the last record begin, and how many it may have: none before the first record.
+    // Where the order lines of the last record begin, and how many it may have: none before the first record. A count, and no
+    // `Option` of a record, so that no test has a case for the start.
     pub first: usize,
     pub most: usize,
 }

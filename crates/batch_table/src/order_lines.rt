@@ -1,12 +1,12 @@
 // What order lines do.
 ghost use Rattle.std.specs.Prelude.{◌≡◌, true};
 ghost use Rattle.journal.specs.Entries.{InRange};
-ghost use Rattle.posting.specs.Standing.{go_on};
+ghost use Rattle.posting.specs.Sources.{OrderKept, HandKept};
 ghost use Rattle.batch_table.specs.OrderLines.{order_for, hand_for, line_in_range, lines_in_range};
 
 use batch::OrderLine;
 use journal::{LAST_ACCOUNT, in_range};
-use posting::Order;
+use posting::{Order, next_hand};
 
 fn line_in_range(line: OrderLine) -> bool
     ensures { result ≡ line_in_range line }
@@ -15,6 +15,7 @@ fn line_in_range(line: OrderLine) -> bool
         OrderLine::Take(account) | OrderLine::Join(account) | OrderLine::Write(account) => {
             account <= LAST_ACCOUNT
         }
+        // Arms of their own: where one pattern of a match joins accounts and another joins cents, the check gives no proof.
         OrderLine::Set(cents) => in_range(cents),
         OrderLine::Raise(cents) => in_range(cents),
         OrderLine::Need(cents) => in_range(cents),
@@ -25,34 +26,19 @@ fn line_in_range(line: OrderLine) -> bool
 pub(crate) fn lines_in_range(lines: &[OrderLine]) -> bool
     ensures { result ≡ lines_in_range lines.now }
 {
-    for line in lines {
-        if !line_in_range(*line) {
-            return false;
-        }
-    }
-    true
-}
-
-// The order to take up this hand, or void if it is out of range.
-fn go_on(hand: i64) -> Order
-    ensures { result ≡ go_on hand }
-{
-    if in_range(hand) {
-        Order::GoOn { hand }
-    } else {
-        Order::Void
-    }
+    lines.iter().all(|line| line_in_range(*line))
 }
 
 // The order that a line gives at this hand.
 pub(crate) fn order_for(line: OrderLine, hand: i64) -> Order
     requires { (line_in_range line ≡ true) × (InRange hand) }
-    ensures { result ≡ order_for line hand }
+    ensures value { result ≡ order_for line hand }
+    ensures kept { OrderKept result }
 {
     match line {
         OrderLine::Take(account) | OrderLine::Join(account) => Order::Read { account },
         OrderLine::Set(cents) => Order::GoOn { hand: cents },
-        OrderLine::Raise(cents) => go_on(hand + cents),
+        OrderLine::Raise(cents) => Order::go_on(hand + cents),
         OrderLine::Need(cents) => {
             if cents <= hand {
                 Order::GoOn { hand }
@@ -70,14 +56,12 @@ pub(crate) fn order_for(line: OrderLine, hand: i64) -> Order
 // The next hand where a line finds a value.
 pub(crate) fn hand_for(line: OrderLine, hand: i64, value: i64) -> Option<i64>
     requires { (InRange hand) × (InRange value) }
-    ensures { result ≡ hand_for line hand value }
+    ensures value { result ≡ hand_for line hand value }
+    ensures kept { HandKept result }
 {
     match line {
         OrderLine::Take(_) => Some(value),
-        OrderLine::Join(_) => {
-            let sum = hand + value;
-            if in_range(sum) { Some(sum) } else { None }
-        }
+        OrderLine::Join(_) => next_hand(hand + value),
         _ => None,
     }
 }
