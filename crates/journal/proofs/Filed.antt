@@ -1,5 +1,5 @@
 -- What filing answers, and the records after one more.
-use Rattle.std.proofs.Common.{◌≡◌, ℕ, ◌<◌, min, Bool, cond, eqb, ltb, List, [], ◌∷◌, ◌++◌, map, length, take, Ok, Err, Result, sym, ap, ◌∙◌, arith}
+use Rattle.std.proofs.Common.{◌≡◌, ℕ, ◌<◌, min, Bool, true, false, refl, cond, eqb, ltb, List, [], ◌∷◌, ◌++◌, map, length, take, Ok, Err, Result, sym, ap, ◌∙◌, arith}
 use Rattle.std.proofs.lemmas.Bool.Decides.{nat_tests}
 use Rattle.std.proofs.lemmas.List.{length-map, length-take, length_push, take_all, map_push}
 use Rattle.journal.specs.Entries.{posted, is_entry}
@@ -18,12 +18,20 @@ tested b p l s = cond b (cond (eqb p l) (cond (ltb l s) (Ok tt) (Err Full)) (Err
 pub length_records : (xs : List Entry) → length (map posted (take 4096 xs)) ≡ min 4096 (length xs)
 length_records xs = length-map (take 4096 xs) posted ∙ length-take 4096 xs
 
-has_room : (b : Bool) (p l s : ℕ) → Ok tt ≡ tested b p l s → l < s
-has_room b p l s h = grind (arith, nat_tests)
+-- what passed the three tests
+pub record CanBeFiled (e : Entry) (place len size : ℕ) : Type 0 where
+  pub entry : true ≡ is_entry e
+  pub end : place ≡ len
+  pub room : len < size
 
--- what can be filed has room
-pub room_left : (e : Entry) (p l s : ℕ) → Ok tt ≡ filing e p l s → l < s
-room_left e = has_room (is_entry e)
+passed : (b : Bool) (p l s : ℕ) → Ok tt ≡ tested b p l s → (true ≡ b) × (p ≡ l) × (l < s)
+passed true p l s h = (refl, grind (arith, nat_tests), grind (arith, nat_tests))
+passed false p l s h = absurd (grind arith)
+
+pub can_be_filed : (e : Entry) (p l s : ℕ) → Ok tt ≡ filing e p l s → CanBeFiled e p l s
+can_be_filed e p l s h =
+    let all = passed (is_entry e) p l s h in
+    record { entry = all.0; end = all.1; room = all.2 }
 
 -- what can be filed in records has a free one, and the roll's items are the entries
 pub record HasRoom (c : Cells) : Type 0 where
@@ -33,7 +41,7 @@ pub record HasRoom (c : Cells) : Type 0 where
 
 pub room_to_file : (c : Cells) (e : Entry) (p : ℕ) → Ok tt ≡ filing e p (length (cell_entries c)) (cell_size c) → HasRoom c
 room_to_file c e p h =
-    let room = room_left e p (length (cell_entries c)) (cell_size c) h in
+    let room = (can_be_filed e p (length (cell_entries c)) (cell_size c) h).room in
     let long = length_records (items c.roll) in
     record { below = omega arith; free = omega arith; all = omega arith }
 

@@ -10,7 +10,7 @@ ghost use Rattle.leaves.specs.Stores.{leaf_entries, leaf_size, GoodLeaves};
 
 use crate::leaf::{LEAF, count_on, encode, given_on, hand_on, identity_on, pair_on, void_on};
 use crate::pages::leaves_in;
-use journal::{Entry, FilingRefusal, Journal, MAX_ENTRIES, Pair, PostingId, Reading, is_entry};
+use journal::{Entry, FilingRefusal, Journal, MAX_ENTRIES, Pair, PostingId, Reading};
 
 // A journal in bytes: whole leaves of 160 bytes, the first 4,096 of them or all if they are fewer.
 #[derive(Drop)]
@@ -96,19 +96,10 @@ impl<'a> Journal for Leaves<'a> {
         ensures lender { self.new.bytes.ghost_name ≡ self.old.bytes.ghost_name }
         ensures good { GoodLeaves self.old → GoodLeaves self.new }
     {
-        if !is_entry(e) {
-            return Err(FilingRefusal::NotAnEntry);
-        }
-        let length = self.length();
-        if place != length {
-            return Err(FilingRefusal::NotAtTheEnd);
-        }
-        if length >= self.size() {
-            return Err(FilingRefusal::Full);
-        }
-        let from = LEAF * length;
+        self.can_file(place, e)?;
+        let from = LEAF * place;
         self.bytes[from..from + LEAF].copy_from_slice(&encode(e));
-        self.used = length + 1;
+        self.used = place + 1;
         Ok(())
     }
 }

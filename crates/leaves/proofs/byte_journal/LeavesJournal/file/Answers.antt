@@ -1,11 +1,12 @@
-use Rattle.std.proofs.Common.{◌≡◌, ℕ, ◌+◌, ◌-◌, ◌*◌, ◌/◌, ◌≤◌, min, List, [], ◌∷◌, ◌++◌, length, take, sym, refl, ap, ◌∙◌, subst, arith, rules, below_more}
+use Rattle.std.proofs.Common.{true, ◌<◌, ◌≡◌, ℕ, ◌+◌, ◌-◌, ◌*◌, ◌/◌, ◌≤◌, min, List, [], ◌∷◌, ◌++◌, length, take, sym, refl, ap, ◌∙◌, subst, arith, rules, below_more}
 use borrow.Rule.Slice.PartMut.{put_mid}
 use Rattle.std.proofs.lemmas.List.{drop-drop}
-use Rattle.journal.specs.Entries.{posted}
+use Rattle.journal.specs.Entries.{posted, IsEntry}
 use Rattle.leaves.specs.Leaf.{leaf_of, IsLeaf}
-use Rattle.leaves.specs.Pages.{leaf_at, leaf_put, leaves_used, entries_on}
+use Rattle.leaves.specs.Pages.{leaf_at, leaf_put, whole_leaves, leaves_used, entries_on}
 use Rattle.leaves.specs.Stores.{leaf_entries, leaf_size}
-use Rattle.journal.proofs.Filed.{filing_ok}
+use Rattle.journal.proofs.Filed.{can_be_filed}
+use Rattle.journal.proofs.Lawfulness.{entry_decided}
 use Rattle.leaves.proofs.PageEntries.{length_entries}
 use Rattle.leaves.proofs.PageBooks.{length_put, entries_put, leaf_below, leaf_same}
 use Rattle.leaves.proofs.RoundTrip.{length_leaf}
@@ -25,26 +26,27 @@ returns c =
     let e = c.args.e.now in
     let bs = s.bytes.now in
     let used = leaves_used s.used bs in
-    let n = c.length-length.result in
-    let is : n ≡ used = c.length-length.ensures ∙ length_entries used bs in
-    let ok = c.if-not-is_entry.ensures.decides.0 refl in
+    let n = c.args.place in
+    let free = can_be_filed e n (length (leaf_entries s)) (leaf_size s) (search rules) in
+    let is : n ≡ used = free.end ∙ length_entries used bs in
+    let ok : IsEntry e = (entry_decided e true free.entry).0 refl in
     let leaf = leaf_of (posted e) in
     let ll = length_leaf (posted e) ok.lawful.few in
-    let size = c.size.ensures.value in
+    let size : n < whole_leaves bs = rw free.end free.room in
     let room : 160 * n + 160 ≤ length bs = omega arith in
     let after = put_mid (160 * n) ((160 * n + 160) - 160 * n) bs c.copy_from_slice.new.self in
     let put : after ≡ leaf_put bs n leaf = put_is bs c.copy_from_slice.new.self leaf n (c.copy_from_slice.ensures.after ∙ c.encode.ensures) in
     let same : length after ≡ length bs = ap length put ∙ length_put bs leaf n ll room in
     let more : leaves_used (n + 1) after ≡ n + 1 = omega arith in
     record {
-      answer = filing_ok e c.args.place (length (leaf_entries s)) (leaf_size s) c.if-not-is_entry.ensures.test (omega (arith, c.length-length.ensures)) (omega (arith, c.length-length.ensures));
+      answer = search rules;
       entries =
           ap (λ (k : ℕ). entries_on k after) more
           ∙ ap (entries_on (n + 1)) put
           ∙ entries_put bs leaf n e room refl ok
           ∙ ap (λ (k : ℕ). entries_on k bs ++ posted e ∷ []) is;
       size = ap (λ (k : ℕ). min (k / 160) 4096) same;
-      bytes = put ∙ ap (λ (k : ℕ). leaf_put bs k leaf) c.length-length.ensures;
+      bytes = put ∙ ap (λ (k : ℕ). leaf_put bs k leaf) free.end;
       lender = search rules;
       good = λ h k l.
           let at : IsLeaf (leaf_at (leaf_put bs n leaf) k) =
