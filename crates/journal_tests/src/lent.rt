@@ -1,11 +1,11 @@
 // What the lender's memory holds once a roll or a journal over it is gone.
-ghost use Rattle.std.specs.Prelude.{◌≡◌, min, length, is_ok, if◌then◌else◌, slice_set};
+ghost use Rattle.std.specs.Prelude.{◌≡◌, is_ok, if◌then◌else◌, slice_set};
 ghost use Rattle.journal.specs.Entries.{posted};
 ghost use Rattle.journal.specs.Filing.{filing};
 ghost use Rattle.leaves.specs.Leaf.{leaf_of};
 ghost use Rattle.leaves.specs.Pages.{leaf_put, whole_leaves};
 
-use journal::{Cells, Entry, FilingRefusal, Journal};
+use journal::{Entry, FilingRefusal, Journal};
 use leaves::Leaves;
 use roll::Roll;
 
@@ -24,14 +24,5 @@ pub fn file_on_leaves(bytes: &mut [u8], e: &Entry) -> Result<(), FilingRefusal>
     ensures bytes { bytes.new ≡ (if is_ok result then leaf_put bytes.old 0 (leaf_of (posted e.now)) else bytes.old) }
 {
     let mut journal = Leaves::new(bytes);
-    journal.file(0, e)
-}
-
-// Files one entry. The first record is that entry afterwards, and all others are as they were.
-pub fn file_in_cells(cells: &mut [Entry], e: &Entry) -> Result<(), FilingRefusal>
-    ensures answer { result ≡ filing e.now 0 0 (min (length cells.old) 4096) }
-    ensures cells { cells.new ≡ (if is_ok result then slice_set cells.old 0 e.now else cells.old) }
-{
-    let mut journal = Cells::new(cells);
     journal.file(0, e)
 }
