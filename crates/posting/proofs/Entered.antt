@@ -1,5 +1,7 @@
 -- Whatever the balances, a posting worked alone makes a lawful entry.
 use Rattle.std.proofs.Common.{◌≡◌, ℕ, zero, suc, ◌+◌, ◌≤◌, true, ◌&&◌, leb, List, [], ◌∷◌, length, get_or, set, replicate, ℤ, Some, None, Option, refl, ◌∙◌, arith, length-set}
+use Rattle.std.specs.declared.ops.ControlFlow.{ControlFlow}
+use Rattle.std.specs.declared.ops.ControlFlow.TheVariants.{Continue, Break}
 use Rattle.std.proofs.lemmas.Bool.{and_from, le-leb, false≢true}
 use Rattle.journal.specs.Entries.{posted, InRange, in_range, fits, rises, lawful, is_entry, Lawful}
 use Rattle.journal.specs.declared.entry.Pair.{Pair}
@@ -10,8 +12,8 @@ use Rattle.posting.specs.declared.order.Order.{Order}
 use Rattle.posting.specs.declared.order.Order.TheVariants.{Read, Write, GoOn, Done, Void}
 use Rattle.posting.specs.declared.sheet.Draft.{Draft}
 use Rattle.posting.specs.declared.sheet.Sheet.{Sheet}
-use Rattle.posting.specs.declared.sheet.Progress.{Progress}
-use Rattle.posting.specs.declared.sheet.Progress.TheVariants.{More, Ended, Voided}
+use Rattle.posting.specs.declared.sheet.Ending.{Ending}
+use Rattle.posting.specs.declared.sheet.Ending.TheVariants.{Closed, Voided}
 use Rattle.posting.proofs.Lines.{line_adds, blank_none}
 
 -- every value that was written is in range
@@ -85,11 +87,11 @@ voided_sound : (start : ℤ) (s : Sheet) → InRange start → Sound (voided sta
 voided_sound start s h = record { hand = h; few = omega arith; rising = refl; void = λ e. refl }
 
 after_sound :
-    (start : ℤ) (rest : Sheet → Outcome) (left : ℕ) (p : Progress × Sheet) → InRange start → Kept p.1 → length (pairs_from 0 p.1.written) + left ≤ 16
+    (start : ℤ) (rest : Sheet → Outcome) (left : ℕ) (p : ControlFlow Ending (Unit {0}) × Sheet) → InRange start → Kept p.1 → length (pairs_from 0 p.1.written) + left ≤ 16
     → ((t : Sheet) → Kept t → length (pairs_from 0 t.written) + left ≤ 16 → Sound (rest t)) → Sound (after start rest p)
-after_sound start rest left (More, t) h k few sound = sound t k few
-after_sound start rest left (Ended, t) h k few sound = closed_sound t k (omega arith)
-after_sound start rest left (Voided, t) h k few sound = voided_sound start t h
+after_sound start rest left (Continue u, t) h k few sound = sound t k few
+after_sound start rest left (Break Closed, t) h k few sound = closed_sound t k (omega arith)
+after_sound start rest left (Break Voided, t) h k few sound = voided_sound start t h
 
 module _ (m : Meaning) (limits : Limits m) (house number : ℕ) (balance : ℕ → ℤ) (start : ℤ) (h : InRange start) where
   worked_sound : (left line : ℕ) (s : Sheet) → Kept s → length (pairs_from 0 s.written) + left ≤ 16 → Sound (worked m house number balance start left line s)

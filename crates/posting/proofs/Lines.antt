@@ -1,25 +1,27 @@
 -- A posting worked line by line.
 use Rattle.std.proofs.Common.{◌≡◌, ℕ, zero, suc, ◌+◌, ◌-◌, ◌<◌, ◌≤◌, List, [], ◌∷◌, length, get_or, set, ℤ, Some, None, Option, sym, refl, ap, ◌∙◌, arith}
+use Rattle.std.specs.declared.ops.ControlFlow.{ControlFlow}
+use Rattle.std.specs.declared.ops.ControlFlow.TheVariants.{Continue, Break}
 use Rattle.posting.specs.Sources.{Meaning}
 use Rattle.posting.specs.Alone.{sought, noted, told, carried, line_of, pairs_from, closed, voided, after, worked, blank}
 use Rattle.posting.specs.declared.order.Order.{Order}
 use Rattle.posting.specs.declared.order.Order.TheVariants.{Read, Write, GoOn, Done, Void}
 use Rattle.posting.specs.declared.sheet.Sheet.{Sheet}
-use Rattle.posting.specs.declared.sheet.Progress.{Progress}
-use Rattle.posting.specs.declared.sheet.Progress.TheVariants.{More, Ended, Voided}
+use Rattle.posting.specs.declared.sheet.Ending.{Ending}
+use Rattle.posting.specs.declared.sheet.Ending.TheVariants.{Closed, Voided}
 
 module _ (m : Meaning) (house number : ℕ) (balance : ℕ → ℤ) (start : ℤ) where
   one : (n line : ℕ) (s : Sheet) → line < n → worked m house number balance start (n - line) line s ≡ after start (worked m house number balance start (n - (line + 1)) (line + 1)) (line_of m house number balance line s)
   unfolding worked
   one n line s lt = let e : n - line ≡ suc (n - (line + 1)) = omega arith in rw e refl
 
-  pub worked_more : (n line : ℕ) (s t : Sheet) → line < n → (More, t) ≡ line_of m house number balance line s → worked m house number balance start (n - (line + 1)) (line + 1) t ≡ worked m house number balance start (n - line) line s
+  pub worked_more : (n line : ℕ) (s t : Sheet) → line < n → (Continue tt, t) ≡ line_of m house number balance line s → worked m house number balance start (n - (line + 1)) (line + 1) t ≡ worked m house number balance start (n - line) line s
   worked_more n line s t lt e = ap (after start (worked m house number balance start (n - (line + 1)) (line + 1))) e ∙ sym (one n line s lt)
 
-  pub worked_ended : (n line : ℕ) (s t : Sheet) → line < n → (Ended, t) ≡ line_of m house number balance line s → closed t ≡ worked m house number balance start (n - line) line s
+  pub worked_ended : (n line : ℕ) (s t : Sheet) → line < n → (Break Closed, t) ≡ line_of m house number balance line s → closed t ≡ worked m house number balance start (n - line) line s
   worked_ended n line s t lt e = ap (after start (worked m house number balance start (n - (line + 1)) (line + 1))) e ∙ sym (one n line s lt)
 
-  pub worked_voided : (n line : ℕ) (s t : Sheet) → line < n → (Voided, t) ≡ line_of m house number balance line s → voided start t ≡ worked m house number balance start (n - line) line s
+  pub worked_voided : (n line : ℕ) (s t : Sheet) → line < n → (Break Voided, t) ≡ line_of m house number balance line s → voided start t ≡ worked m house number balance start (n - line) line s
   worked_voided n line s t lt e = ap (after start (worked m house number balance start (n - (line + 1)) (line + 1))) e ∙ sym (one n line s lt)
 
   pub worked_out : (n line : ℕ) (s : Sheet) → n - line ≡ 0 → closed s ≡ worked m house number balance start (n - line) line s
@@ -65,16 +67,16 @@ carried_adds Done found balance s = omega arith
 carried_adds Void found balance s = omega arith
 
 pub line_adds :
-    (m : Meaning) (house number : ℕ) (balance : ℕ → ℤ) (line : ℕ) (s t : Sheet) (p : Progress)
+    (m : Meaning) (house number : ℕ) (balance : ℕ → ℤ) (line : ℕ) (s t : Sheet) (p : ControlFlow Ending (Unit {0}))
     → (p, t) ≡ line_of m house number balance line s → length (pairs_from 0 t.written) ≤ length (pairs_from 0 s.written) + 1
 line_adds m house number balance line s t p e =
     let same : length (pairs_from 0 t.written) ≡ length (pairs_from 0 (line_of m house number balance line s).1.written) =
-    ap (λ (x : Progress × Sheet). length (pairs_from 0 x.1.written)) e in
+    ap (λ (x : ControlFlow Ending (Unit {0}) × Sheet). length (pairs_from 0 x.1.written)) e in
     omega (arith, carried_adds (m.order house number line s.hand) (m.found house number line s.hand) balance s)
 
 -- so after a line there are at most as many pairs as lines
 pub lines_few :
-    (m : Meaning) (house number : ℕ) (balance : ℕ → ℤ) (line : ℕ) (s t : Sheet) (p : Progress)
+    (m : Meaning) (house number : ℕ) (balance : ℕ → ℤ) (line : ℕ) (s t : Sheet) (p : ControlFlow Ending (Unit {0}))
     → length (pairs_from 0 s.written) ≤ line → (p, t) ≡ line_of m house number balance line s → length (pairs_from 0 t.written) ≤ line + 1
 lines_few m house number balance line s t p few e = omega (arith, line_adds m house number balance line s t p e)
 

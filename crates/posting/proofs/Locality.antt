@@ -1,13 +1,15 @@
 -- A posting depends on the balances only at its reads.
 use Rattle.std.proofs.Common.{◌≡◌, ℕ, zero, suc, ◌+◌, ◌<◌, Bool, true, false, List, [], ◌∷◌, length, get_or, set, ℤ, Some, None, Option, refl, ap, ◌∙◌, arith, length-set}
+use Rattle.std.specs.declared.ops.ControlFlow.{ControlFlow}
+use Rattle.std.specs.declared.ops.ControlFlow.TheVariants.{Continue, Break}
 use Rattle.std.proofs.lemmas.List.{get_or-set_same}
 use Rattle.posting.specs.Sources.{Meaning, OrderKept, Limits}
 use Rattle.posting.specs.Alone.{Outcome, sought, noted, told, carried, line_of, after, worked, blank, Among, Local}
 use Rattle.posting.specs.declared.order.Order.{Order}
 use Rattle.posting.specs.declared.order.Order.TheVariants.{Read, Write, GoOn, Done, Void}
 use Rattle.posting.specs.declared.sheet.Sheet.{Sheet}
-use Rattle.posting.specs.declared.sheet.Progress.{Progress}
-use Rattle.posting.specs.declared.sheet.Progress.TheVariants.{More, Ended, Voided}
+use Rattle.posting.specs.declared.sheet.Ending.{Ending}
+use Rattle.posting.specs.declared.sheet.Ending.TheVariants.{Closed, Voided}
 
 set_keeps : (bs : List Bool) (i a : ℕ) → Among bs a → Among (set bs i true) a
 set_keeps [] i a h = h
@@ -70,23 +72,23 @@ carried_same Void found these those s kept all h = refl
 
 -- the lines that follow
 
-after_keeps : (start : ℤ) (rest : Sheet → Outcome) (p : Progress × Sheet) (a : ℕ) → ((t : Sheet) → Among t.reads a → Among (rest t).reads a) → Among p.1.reads a → Among (after start rest p).reads a
-after_keeps start rest (More, t) a keeps h = keeps t h
-after_keeps start rest (Ended, t) a keeps h = h
-after_keeps start rest (Voided, t) a keeps h = h
+after_keeps : (start : ℤ) (rest : Sheet → Outcome) (p : ControlFlow Ending (Unit {0}) × Sheet) (a : ℕ) → ((t : Sheet) → Among t.reads a → Among (rest t).reads a) → Among p.1.reads a → Among (after start rest p).reads a
+after_keeps start rest (Continue u, t) a keeps h = keeps t h
+after_keeps start rest (Break Closed, t) a keeps h = h
+after_keeps start rest (Break Voided, t) a keeps h = h
 
 after_same :
-    (start : ℤ) (rest other : Sheet → Outcome) (these those : ℕ → ℤ) (p : Progress × Sheet) → length p.1.reads ≡ 64
+    (start : ℤ) (rest other : Sheet → Outcome) (these those : ℕ → ℤ) (p : ControlFlow Ending (Unit {0}) × Sheet) → length p.1.reads ≡ 64
     → ((t : Sheet) → length t.reads ≡ 64 → ((a : ℕ) → Among (rest t).reads a → these a ≡ those a) → rest t ≡ other t)
     → ((a : ℕ) → Among (after start rest p).reads a → these a ≡ those a) → after start rest p ≡ after start other p
-after_same start rest other these those (More, t) all same h = same t all h
-after_same start rest other these those (Ended, t) all same h = refl
-after_same start rest other these those (Voided, t) all same h = refl
+after_same start rest other these those (Continue u, t) all same h = same t all h
+after_same start rest other these those (Break Closed, t) all same h = refl
+after_same start rest other these those (Break Voided, t) all same h = refl
 
-after_length : (start : ℤ) (rest : Sheet → Outcome) (p : Progress × Sheet) → ((t : Sheet) → length (rest t).reads ≡ length t.reads) → length (after start rest p).reads ≡ length p.1.reads
-after_length start rest (More, t) same = same t
-after_length start rest (Ended, t) same = refl
-after_length start rest (Voided, t) same = refl
+after_length : (start : ℤ) (rest : Sheet → Outcome) (p : ControlFlow Ending (Unit {0}) × Sheet) → ((t : Sheet) → length (rest t).reads ≡ length t.reads) → length (after start rest p).reads ≡ length p.1.reads
+after_length start rest (Continue u, t) same = same t
+after_length start rest (Break Closed, t) same = refl
+after_length start rest (Break Voided, t) same = refl
 
 module _ (m : Meaning) (house number : ℕ) (start : ℤ) where
   worked_keeps : (balance : ℕ → ℤ) (left line : ℕ) (s : Sheet) (a : ℕ) → Among s.reads a → Among (worked m house number balance start left line s).reads a

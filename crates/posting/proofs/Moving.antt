@@ -1,5 +1,6 @@
 -- A posting of a standing order, line by line.
 use Rattle.std.proofs.Common.{◌≡◌, ℕ, zero, suc, ◌+◌, ◌<◌, ◌≤◌, true, false, ◌&&◌, eqb, ltb, leb, List, [], ◌∷◌, length, get_or, set, replicate, ℤ, ◌+ℤ◌, ◌-ℤ◌, Some, None, Option, sym, refl, ap, ◌∙◌, zero-add, arith, length-set}
+use Rattle.std.specs.declared.ops.ControlFlow.TheVariants.{Continue, Break}
 use lib.Signed.{le_z}
 use Rattle.std.proofs.lemmas.List.{get_or-set_same, get_or-set_other}
 use Rattle.std.proofs.lemmas.Bool.{and_from, and_parts, le-leb, lt-ltb, eq-eqb, ne_eqb, cond-true, cond-false}
@@ -11,7 +12,7 @@ use Rattle.posting.specs.Standing.{good_order, order_at, line_order, line_found,
 use Rattle.posting.specs.Moves.{AlwaysMoves}
 use Rattle.posting.specs.declared.order.Order.TheVariants.{Read, Write, GoOn, Done, Void}
 use Rattle.posting.specs.declared.sheet.Sheet.{Sheet}
-use Rattle.posting.specs.declared.sheet.Progress.TheVariants.{More, Ended}
+use Rattle.posting.specs.declared.sheet.Ending.TheVariants.{Closed}
 use Rattle.posting.specs.declared.standing_order.StandingOrder.{StandingOrder}
 use Rattle.posting.proofs.Outside.{asked_hand}
 use Rattle.posting.proofs.StandingLimits.{good_parts}
@@ -47,27 +48,27 @@ none_at (suc n) (suc a) = none_at n a
 module _ (m : Meaning) (house number : ℕ) (balance : ℕ → ℤ) (line : ℕ) (s : Sheet) where
   reads_balance :
       (a : ℕ) (hand : ℤ) → m.order house number line s.hand ≡ Read a → get_or s.written a None ≡ None → m.found house number line s.hand (balance a) ≡ Some hand
-      → line_of m house number balance line s ≡ (More, record { hand = hand; reads = set s.reads a true; written = s.written })
+      → line_of m house number balance line s ≡ (Continue tt, record { hand = hand; reads = set s.reads a true; written = s.written })
   reads_balance a hand order unwritten found =
       ap (λ o. carried o (m.found house number line s.hand) balance s) order
       ∙ ap (λ w. told (m.found house number line s.hand (sought w (balance a))) (noted w a s)) unwritten
       ∙ ap (λ next. told next (noted None a s)) found
 
-  writes : (a : ℕ) (value : ℤ) → m.order house number line s.hand ≡ Write a value → line_of m house number balance line s ≡ (More, record { hand = s.hand; reads = s.reads; written = set s.written a (Some value) })
+  writes : (a : ℕ) (value : ℤ) → m.order house number line s.hand ≡ Write a value → line_of m house number balance line s ≡ (Continue tt, record { hand = s.hand; reads = s.reads; written = set s.written a (Some value) })
   writes a value order = ap (λ o. carried o (m.found house number line s.hand) balance s) order
 
-  goes_on : (hand : ℤ) → m.order house number line s.hand ≡ GoOn hand → line_of m house number balance line s ≡ (More, record { hand = hand; reads = s.reads; written = s.written })
+  goes_on : (hand : ℤ) → m.order house number line s.hand ≡ GoOn hand → line_of m house number balance line s ≡ (Continue tt, record { hand = hand; reads = s.reads; written = s.written })
   goes_on hand order = ap (λ o. carried o (m.found house number line s.hand) balance s) order
 
-  is_done : m.order house number line s.hand ≡ Done → line_of m house number balance line s ≡ (Ended, s)
+  is_done : m.order house number line s.hand ≡ Done → line_of m house number balance line s ≡ (Break Closed, s)
   is_done order = ap (λ o. carried o (m.found house number line s.hand) balance s) order
 
 module _ (m : Meaning) (house number : ℕ) (balance : ℕ → ℤ) (start : ℤ) (left line : ℕ) (s t : Sheet) where
-  then_more : line_of m house number balance line s ≡ (More, t) → worked m house number balance start (suc left) line s ≡ worked m house number balance start left (line + 1) t
+  then_more : line_of m house number balance line s ≡ (Continue tt, t) → worked m house number balance start (suc left) line s ≡ worked m house number balance start left (line + 1) t
   unfolding worked
   then_more e = ap (after start (worked m house number balance start left (line + 1))) e
 
-  then_ended : line_of m house number balance line s ≡ (Ended, t) → worked m house number balance start (suc left) line s ≡ closed t
+  then_ended : line_of m house number balance line s ≡ (Break Closed, t) → worked m house number balance start (suc left) line s ≡ closed t
   unfolding worked
   then_ended e = ap (after start (worked m house number balance start left (line + 1))) e
 
@@ -119,7 +120,7 @@ module _ (os : List StandingOrder) (house number : ℕ) (start : ℤ) (balance :
   sheet5 = record { hand = sheet4.hand; reads = sheet4.reads; written = set sheet4.written (order_at os house).to (Some sheet4.hand) }
 
   module _ (h : InRange (balance (order_at os house).from)) where
-    line0 : line_of (standing os) house number balance 0 (blank start) ≡ (More, sheet1)
+    line0 : line_of (standing os) house number balance 0 (blank start) ≡ (Continue tt, sheet1)
     line0 =
         let s : InRange start = asked_hand (standing os) house number 0 start in-range in
         reads_balance (standing os) house number balance 0 (blank start) (order_at os house).from (balance (order_at os house).from)
@@ -138,21 +139,21 @@ module _ (os : List StandingOrder) (house number : ℕ) (start : ℤ) (balance :
         → InRange rest → InRange (balance (order_at os house).to) → InRange (rest +ℤ balance (order_at os house).to)
         → alone (standing os) balance house number start ≡ closed sheet5
     moves high apart r t sum =
-        let line1 : line_of (standing os) house number balance 1 sheet1 ≡ (More, sheet2) =
+        let line1 : line_of (standing os) house number balance 1 sheet1 ≡ (Continue tt, sheet2) =
         writes (standing os) house number balance 1 sheet1 (order_at os house).from (order_at os house).floor
         (order_is 1 sheet1.hand (omega arith) h
         ∙ cond-false (le_z sheet1.hand (order_at os house).floor) Done (Write (order_at os house).from (order_at os house).floor) high) in
-        let line2 : line_of (standing os) house number balance 2 sheet2 ≡ (More, sheet3) =
+        let line2 : line_of (standing os) house number balance 2 sheet2 ≡ (Continue tt, sheet3) =
         goes_on (standing os) house number balance 2 sheet2 rest
         (order_is 2 sheet2.hand (omega arith) h ∙ cond-true (in_range rest) (GoOn rest) Void (le-leb _ _ r)) in
-        let line3 : line_of (standing os) house number balance 3 sheet3 ≡ (More, sheet4) =
+        let line3 : line_of (standing os) house number balance 3 sheet3 ≡ (Continue tt, sheet4) =
         reads_balance (standing os) house number balance 3 sheet3 (order_at os house).to sheet4.hand
         (order_is 3 rest (omega arith) r)
         (get_or-set_other (replicate 64 None) (order_at os house).from (order_at os house).to (Some (order_at os house).floor) None (λ e. apart (sym e))
         ∙ none_at 64 (order_at os house).to)
         (found_is 3 rest (balance (order_at os house).to) (omega arith) r t
         ∙ cond-true (in_range sheet4.hand) (Some sheet4.hand) None (le-leb _ _ sum)) in
-        let line4 : line_of (standing os) house number balance 4 sheet4 ≡ (More, sheet5) =
+        let line4 : line_of (standing os) house number balance 4 sheet4 ≡ (Continue tt, sheet5) =
         writes (standing os) house number balance 4 sheet4 (order_at os house).to sheet4.hand (order_is 4 sheet4.hand (omega arith) sum) in
         then_more (standing os) house number balance start 4 0 (blank start) sheet1 line0
         ∙ then_more (standing os) house number balance start 3 1 sheet1 sheet2 line1

@@ -1,5 +1,7 @@
 -- A posting worked alone: line by line, on balances that nobody alters meanwhile.
 use Rattle.std.specs.Prelude.{◌≡◌, ℕ, zero, suc, ◌+◌, ◌≤◌, Bool, true, false, List, [], ◌∷◌, ◌++◌, take, replicate, ℤ, pos, Some, None, Option, slice_index_or, slice_set}
+use Rattle.std.specs.declared.ops.ControlFlow.{ControlFlow}
+use Rattle.std.specs.declared.ops.ControlFlow.TheVariants.{Continue, Break}
 use Rattle.journal.specs.Entries.{Posted, InRange, Lawful}
 use Rattle.journal.specs.Balances.{balance_after}
 use Rattle.journal.specs.declared.entry.Entry.{Entry}
@@ -8,8 +10,8 @@ use Rattle.posting.specs.Sources.{Meaning}
 use Rattle.posting.specs.declared.order.Order.{Order}
 use Rattle.posting.specs.declared.order.Order.TheVariants.{Read, Write, GoOn, Done, Void}
 use Rattle.posting.specs.declared.sheet.Sheet.{Sheet}
-use Rattle.posting.specs.declared.sheet.Progress.{Progress}
-use Rattle.posting.specs.declared.sheet.Progress.TheVariants.{More, Ended, Voided}
+use Rattle.posting.specs.declared.sheet.Ending.{Ending}
+use Rattle.posting.specs.declared.sheet.Ending.TheVariants.{Closed, Voided}
 use Rattle.posting.specs.declared.sheet.Draft.{Draft}
 
 -- what a posting comes to: which accounts' balances it read (place a tells of account a), whether it is void,
@@ -42,22 +44,22 @@ noted (Some value) a s = s
 noted None a s = record { hand = s.hand; reads = slice_set s.reads a true; written = s.written }
 
 -- what the source makes of a value that was found
-abbrev pub told : Option ℤ → Sheet → Progress × Sheet
-told None s = (Voided, s)
-told (Some hand) s = (More, record { hand = hand; reads = s.reads; written = s.written })
+abbrev pub told : Option ℤ → Sheet → ControlFlow Ending (Unit {0}) × Sheet
+told None s = (Break Voided, s)
+told (Some hand) s = (Continue tt, record { hand = hand; reads = s.reads; written = s.written })
 
 -- one order, where `found` tells the next hand for a value that is found
-abbrev pub carried : Order → (ℤ → Option ℤ) → (ℕ → ℤ) → Sheet → Progress × Sheet
+abbrev pub carried : Order → (ℤ → Option ℤ) → (ℕ → ℤ) → Sheet → ControlFlow Ending (Unit {0}) × Sheet
 carried (Read a) found balance s =
     told (found (sought (slice_index_or s.written a None) (balance a))) (noted (slice_index_or s.written a None) a s)
 carried (Write a value) found balance s =
-    (More, record { hand = s.hand; reads = s.reads; written = slice_set s.written a (Some value) })
-carried (GoOn hand) found balance s = (More, record { hand = hand; reads = s.reads; written = s.written })
-carried Done found balance s = (Ended, s)
-carried Void found balance s = (Voided, s)
+    (Continue tt, record { hand = s.hand; reads = s.reads; written = slice_set s.written a (Some value) })
+carried (GoOn hand) found balance s = (Continue tt, record { hand = hand; reads = s.reads; written = s.written })
+carried Done found balance s = (Break Closed, s)
+carried Void found balance s = (Break Voided, s)
 
 -- one line of a posting
-abbrev pub line_of : Meaning → ℕ → ℕ → (ℕ → ℤ) → ℕ → Sheet → Progress × Sheet
+abbrev pub line_of : Meaning → ℕ → ℕ → (ℕ → ℤ) → ℕ → Sheet → ControlFlow Ending (Unit {0}) × Sheet
 line_of m house number balance line s =
     carried (m.order house number line s.hand) (m.found house number line s.hand) balance s
 
@@ -80,10 +82,10 @@ abbrev pub voided : ℤ → Sheet → Outcome
 voided start s = record { reads = s.reads; void = true; hand = start; pairs = [] }
 
 -- the end after a line, or what comes of the lines that follow
-abbrev pub after : ℤ → (Sheet → Outcome) → Progress × Sheet → Outcome
-after start rest (More, s) = rest s
-after start rest (Ended, s) = closed s
-after start rest (Voided, s) = voided start s
+abbrev pub after : ℤ → (Sheet → Outcome) → ControlFlow Ending (Unit {0}) × Sheet → Outcome
+after start rest (Continue u, s) = rest s
+after start rest (Break Closed, s) = closed s
+after start rest (Break Voided, s) = voided start s
 
 -- with so many lines left, from this line on; with none left the posting ends
 unfoldable pub worked : Meaning → ℕ → ℕ → (ℕ → ℤ) → ℤ → ℕ → ℕ → Sheet → Outcome

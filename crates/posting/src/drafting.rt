@@ -4,9 +4,10 @@ ghost use Rattle.posting.specs.Alone.{balances_after, line_of, outcome, alone, L
 
 use crate::balances::Balances;
 use crate::order::Order;
-use crate::sheet::{Draft, Progress, Sheet};
+use crate::sheet::{Draft, Ending, Sheet};
 use crate::sources::{Question, Source};
 use journal::{ACCOUNTS, PostingId, Reading};
+use std::ops::ControlFlow::{self, Break, Continue};
 
 // Carries out one line of a posting.
 fn work_line<S: Source, R: Reading>(
@@ -15,7 +16,7 @@ fn work_line<S: Source, R: Reading>(
     posting: PostingId,
     line: usize,
     sheet: &mut Sheet,
-) -> Progress
+) -> ControlFlow<Ending>
     ensures { (result, sheet.new) ≡ line_of (S.Source.meaning source.now) posting.house posting.number (balances_after (R.Reading.entries balances.now.journal.now) balances.now.openings.now balances.now.k) line sheet.old }
 {
     let question = Question {
@@ -30,14 +31,14 @@ fn work_line<S: Source, R: Reading>(
         }
         Order::Write { account, value } => {
             sheet.written[account as usize] = Some(value);
-            Progress::More
+            Continue(())
         }
         Order::GoOn { hand } => {
             sheet.hand = hand;
-            Progress::More
+            Continue(())
         }
-        Order::Done => Progress::Ended,
-        Order::Void => Progress::Voided,
+        Order::Done => Break(Ending::Closed),
+        Order::Void => Break(Ending::Voided),
     }
 }
 
@@ -65,9 +66,9 @@ pub fn draft<S: Source, R: Reading>(
     let lines = source.longest_posting();
     for line in 0..lines {
         match work_line(source, &balances, posting, line, &mut sheet) {
-            Progress::More => {}
-            Progress::Ended => break,
-            Progress::Voided => return sheet.spoil(start),
+            Continue(()) => {}
+            Break(Ending::Closed) => break,
+            Break(Ending::Voided) => return sheet.spoil(start),
         }
     }
     sheet.close()

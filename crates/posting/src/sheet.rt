@@ -5,6 +5,7 @@ ghost use Rattle.posting.specs.Alone.{outcome, listed, blank, balances_after, so
 
 use crate::balances::Balances;
 use journal::{ACCOUNTS, Entry, MAX_PAIRS, Pair, PostingId, Reading};
+use std::ops::ControlFlow::{self, Break, Continue};
 
 // A posting that is being worked, account by account.
 #[derive(Clone, Copy, Debug)]
@@ -17,14 +18,12 @@ pub struct Sheet {
     pub written: [Option<i64>; ACCOUNTS],
 }
 
-// What comes after a line.
+// How a posting ends.
 #[derive(Clone, Copy, Debug, PartialEq, Eq)]
-pub enum Progress {
-    // The next line.
-    More,
-    // The end of the posting.
-    Ended,
-    // The end of the posting, which is void.
+pub enum Ending {
+    // With the present hand and all that was written.
+    Closed,
+    // Void.
     Voided,
 }
 
@@ -70,14 +69,14 @@ impl Sheet {
     }
 
     // Takes up the hand that the source tells for a value that was found.
-    pub(crate) fn take_up(&mut self, hand: Option<i64>) -> Progress
+    pub(crate) fn take_up(&mut self, hand: Option<i64>) -> ControlFlow<Ending>
         ensures { (result, self.new) ≡ told hand self.old }
     {
         let Some(hand) = hand else {
-            return Progress::Voided;
+            return Break(Ending::Voided);
         };
         self.hand = hand;
-        Progress::More
+        Continue(())
     }
 
     // An end with the present hand and all that was written.
