@@ -9,10 +9,9 @@ const GOOD: StandingOrder = StandingOrder {
 };
 
 fn told(orders: &[StandingOrder]) -> (u8, usize) {
-    match check_orders(orders) {
-        Ok(()) => (0, 0),
-        Err(refusal) => (u8::from(refusal), refusal.place()),
-    }
+    check_orders(orders)
+        .err()
+        .map_or((0, 0), |refusal| (u8::from(refusal), refusal.place()))
 }
 
 #[test]
