@@ -1,11 +1,11 @@
 // What the lines of a batch say, and why one may be refused.
 ghost use Rattle.std.specs.Prelude.{◌≡◌};
-ghost use Rattle.batch.specs.Refusals.{refusal_number, refusal_line, refusal_field};
+ghost use Rattle.batch.specs.Refusals.{refusal_number, refusal_line, refusal_field, refusal_at};
 
 use crate::records::{OrderLine, Run};
 
 // The kinds of order lines.
-#[derive(Clone, Copy)]
+#[derive(Clone, Copy, Debug, PartialEq, Eq)]
 pub enum Kind {
     Take,
     Join,
@@ -16,7 +16,7 @@ pub enum Kind {
 }
 
 // What a line is for.
-#[derive(Clone, Copy)]
+#[derive(Clone, Copy, Debug, PartialEq, Eq)]
 pub enum Mark {
     Begin,
     Opening,
@@ -27,7 +27,7 @@ pub enum Mark {
 }
 
 // The first line.
-#[derive(Clone, Copy)]
+#[derive(Clone, Copy, Debug, PartialEq, Eq)]
 pub struct Head {
     pub houses: u8,
     pub workers: u8,
@@ -35,14 +35,14 @@ pub struct Head {
 }
 
 // An account's opening value.
-#[derive(Clone, Copy)]
+#[derive(Clone, Copy, Debug, PartialEq, Eq)]
 pub struct Opens {
     pub account: u8,
     pub cents: i64,
 }
 
 // What an accepted line says.
-#[derive(Clone, Copy)]
+#[derive(Clone, Copy, Debug, PartialEq, Eq)]
 pub enum Item {
     Begins(Head),
     Opened(Opens),
@@ -54,7 +54,7 @@ pub enum Item {
 }
 
 // Why a line is refused, in the order of the tests.
-#[derive(Clone, Copy)]
+#[derive(Clone, Copy, Debug, PartialEq, Eq)]
 pub enum Fault {
     Form,
     Place,
@@ -64,7 +64,7 @@ pub enum Fault {
 }
 
 // Why a batch is refused: the first faulty line, counted from 1, and what is wrong with it.
-#[derive(Clone, Copy, PartialEq, Eq)]
+#[derive(Clone, Copy, Debug, PartialEq, Eq)]
 pub enum BatchRefusal {
     // The text is empty or has more than 32,768 bytes.
     Size,
@@ -80,11 +80,25 @@ pub enum BatchRefusal {
     End(usize),
 }
 
-impl BatchRefusal {
-    pub fn number(self) -> u8
-        ensures { result ≡ refusal_number self }
+impl Fault {
+    // The refusal of a batch by this fault of a line.
+    pub(crate) fn at(self, line: usize) -> BatchRefusal
+        ensures { result ≡ refusal_at line self }
     {
         match self {
+            Fault::Form => BatchRefusal::Form(line),
+            Fault::Place => BatchRefusal::Place(line),
+            Fault::Field(field) => BatchRefusal::Field(line, field),
+            Fault::Room => BatchRefusal::Room(line),
+        }
+    }
+}
+
+impl From<BatchRefusal> for u8 {
+    ghost from_gives = { λ refusal number. number ≡ refusal_number refusal };
+
+    fn from(refusal: BatchRefusal) -> u8 {
+        match refusal {
             BatchRefusal::Size => 11,
             BatchRefusal::Form(_) => 12,
             BatchRefusal::Place(_) => 13,
@@ -93,7 +107,9 @@ impl BatchRefusal {
             BatchRefusal::End(_) => 16,
         }
     }
+}
 
+impl BatchRefusal {
     // The line, or 0 if it is the text as a whole.
     pub fn line(self) -> usize
         ensures { result ≡ refusal_line self }

@@ -47,11 +47,7 @@ impl Plan {
         ensures value { result ≡ keeper_of (terms self.now) house }
         ensures within { IfSome result (λ k. k < (terms self.now).workers) }
     {
-        if house < self.houses {
-            Some(self.keepers[house as usize])
-        } else {
-            None
-        }
+        (house < self.houses).then(|| self.keepers[house as usize])
     }
 
     // The opening value of each account.

@@ -6,7 +6,7 @@ ghost use Rattle.batch.specs.Limits.{Allowed};
 use crate::items::Item;
 
 // What came last.
-#[derive(Clone, Copy)]
+#[derive(Clone, Copy, Debug, PartialEq, Eq)]
 pub enum Stage {
     // Nothing yet.
     Start,
@@ -20,7 +20,7 @@ pub enum Stage {
     Running,
 }
 
-#[derive(Clone, Copy)]
+#[derive(Clone, Copy, Debug, PartialEq, Eq)]
 pub struct Progress {
     pub stage: Stage,
     // As the first line tells them; 1 before it.
@@ -40,7 +40,7 @@ pub struct Progress {
 }
 
 // How many records the tables can hold.
-#[derive(Clone, Copy)]
+#[derive(Clone, Copy, Debug, PartialEq, Eq)]
 pub struct Sizes {
     pub postings: usize,
     pub orders: usize,

@@ -10,14 +10,14 @@ pub const MOST_LINES: usize = 16;
 
 // A posting: its house, and the place of its first order line in the table of order lines.
 // Its order lines end where those of the next posting begin, or with the table.
-#[derive(Clone, Copy)]
+#[derive(Clone, Copy, Debug, PartialEq, Eq)]
 pub struct Posting {
     pub house: u8,
     pub first: usize,
 }
 
 // One order of a posting, on the hand that the house carries: an account from 0 to 63, or cents from -10^15 to 10^15.
-#[derive(Clone, Copy)]
+#[derive(Clone, Copy, Debug, PartialEq, Eq)]
 pub enum OrderLine {
     // T: the hand becomes the account's value.
     Take(u8),
@@ -34,7 +34,7 @@ pub enum OrderLine {
 }
 
 // A run of turns: which worker, and how many turns, from 1 to 10,000.
-#[derive(Clone, Copy)]
+#[derive(Clone, Copy, Debug, PartialEq, Eq)]
 pub struct Run {
     pub worker: u8,
     pub count: u16,

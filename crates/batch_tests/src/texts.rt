@@ -15,7 +15,7 @@ fn told(
     let mut runs = Roll::new(runs);
     match batch::read_batch(text, &mut plan, &mut postings, &mut lines, &mut runs) {
         Ok(()) => (0, 0, 0),
-        Err(refusal) => (refusal.number(), refusal.line(), refusal.field()),
+        Err(refusal) => (u8::from(refusal), refusal.line(), refusal.field()),
     }
 }
 

@@ -14,7 +14,7 @@ returns-in-Err c =
     let few : length c.args.text.now ≤ 32768 = omega arith in
     let more : 0 < length c.loop-rest.rest.now = search rules in
     let n : c.loop-rest.line + 1 ≡ length i.0 + 1 = omega (arith, i.2) in
-    ap Err (c.refusal_at.ensures ∙ ap (λ k. refusal_at k f) n)
+    ap Err (c.at.ensures ∙ ap (λ k. refusal_at k f) n)
     ∙ sym (ap answered (batch_refused c.args.sizes c.loop-rest.known i.0 c.args.text.now c.loop-rest.rest.now f some few i.3 i.1 more c.in-Err.ensures))
 
 pub loop-rest-smaller : goal.loop-rest-smaller
