@@ -1,5 +1,6 @@
 -- What a field of digits writes.
 use Rattle.std.proofs.Common.{◌≡◌, ℕ, zero, suc, ◌+◌, ◌-◌, ◌*◌, ◌^◌, ◌<◌, ◌≤◌, Bool, true, false, cond, ◌&&◌, leb, List, [], ◌∷◌, length, get_or, drop, Some, None, decimal, Option, sym, refl, ap, ◌∙◌, arith, rules, le-leb, leb-true}
+use borrow.Author.Tests.{leb-false}
 use Rattle.std.specs.Str.Parse.{digits_value, AllDigits}
 use Rattle.std.specs.Int.{IsInRange}
 use Rattle.std.specs.Char.{is_ascii_digit}
@@ -9,7 +10,7 @@ use Rattle.std.proofs.lemmas.Slice.Eq.{bytes_eq-Decides}
 use Rattle.std.proofs.lemmas.Str.Parse.{IsNumeralModel, numerals_by_fold, tells_all_ascii_digits, digit_at, tells_digits, numerals_by_value}
 use Rattle.std.proofs.lemmas.Fmt.{decimal-digits_value, digits_decimal, digits_value-decimal, decimal_is_IsNumeral, decimal_digit, decimal_nonempty, first_decimal}
 use Rattle.std.proofs.lemmas.Bool.{and_from, and_parts}
-use Rattle.batch.specs.Fields.{natural}
+use Rattle.batch.specs.Fields.{natural, Decimal}
 
 -- digits read from the left, after the number so far
 abbrev pub read_on : ℕ → List ℕ → ℕ
@@ -33,6 +34,9 @@ pub no_zero : (n : ℕ) → n < 2 ^ 64 → get_or (decimal n) 0 0 ≡ 48 → len
 no_zero zero h e = ap length (decimal_digit 0 (omega arith))
 no_zero (suc n) h e = absurd (omega (arith, first_decimal (suc n) (omega arith) h))
 
+digit_true : (c : ℕ) → 48 ≤ c → c ≤ 57 → is_ascii_digit c ≡ true
+digit_true c l h = search (rules, le-leb)
+
 -- what is no text of a small number
 
 abbrev pub Unwritten : List ℕ → Type 0
@@ -44,15 +48,11 @@ unwritten_none f e n h k = omega (arith, decimal_nonempty n (omega arith), ap le
 pub unwritten_zero : (f : List ℕ) → get_or f 0 0 ≡ 48 → (length f ≡ 1 → ⊥) → Unwritten f
 unwritten_zero f e l n h k = l (ap length k ∙ no_zero n (omega arith) (ap (λ ds. get_or ds 0 0) (sym k) ∙ e))
 
-pub unwritten_low : (f : List ℕ) (i : ℕ) → i < length f → get_or f i 0 < 48 → Unwritten f
-unwritten_low f i l e n h k =
+pub unwritten_digit : (f : List ℕ) (i : ℕ) → i < length f → false ≡ is_ascii_digit (get_or f i 0) → Unwritten f
+unwritten_digit f i l e n h k =
     let d : IsInRange 48 57 (get_or (decimal n) i 0) = decimal_at n i (omega arith) (omega (arith, ap length k)) in
-    omega (arith, d, ap (λ ds. get_or ds i 0) k)
-
-pub unwritten_high : (f : List ℕ) (i : ℕ) → i < length f → 57 < get_or f i 0 → Unwritten f
-unwritten_high f i l e n h k =
-    let d : IsInRange 48 57 (get_or (decimal n) i 0) = decimal_at n i (omega arith) (omega (arith, ap length k)) in
-    omega (arith, d, ap (λ ds. get_or ds i 0) k)
+    let t : is_ascii_digit (get_or f i 0) ≡ true = digit_true (get_or f i 0) (omega (arith, d, ap (λ ds. get_or ds i 0) k)) (omega (arith, d, ap (λ ds. get_or ds i 0) k)) in
+    cc
 
 pub unwritten_large : (f ds : List ℕ) (m : ℕ) → read_on m ds ≡ read_on 0 f → 1000000000000000 < m → Unwritten f
 unwritten_large f ds m e l n h k = omega (arith, read_grows m ds, ap (read_on 0) k, digits_value-decimal own n (omega arith))
@@ -61,27 +61,19 @@ unwritten_large f ds m e l n h k = omega (arith, read_grows m ds, ap (read_on 0)
 pub written_as : (f : List ℕ) (n : ℕ) → all_ascii_digits f ≡ true → 0 < length f → (get_or f 0 0 ≡ 48 → length f ≡ 1) → n ≡ read_on 0 f → n < 2 ^ 64 → f ≡ decimal n
 written_as f n d l z e b = sym (decimal-digits_value own f d l z (omega arith)) ∙ ap decimal (sym e)
 
-pub written_zero : (f : List ℕ) → get_or f 0 0 ≡ 48 → length f ≡ 1 → f ≡ decimal 0
-written_zero [] e l = absurd (omega arith)
-written_zero (c ∷ []) e l = ap (λ x. x ∷ []) e ∙ sym (decimal_digit 0 (omega arith))
-written_zero (c ∷ d ∷ ds) e l = absurd (omega arith)
-
 -- one more digit
 
-pub digit_true : (c : ℕ) → 48 ≤ c → c ≤ 57 → is_ascii_digit c ≡ true
-digit_true c l h = search (rules, le-leb)
-
-pub digits_more : (f : List ℕ) (i : ℕ) → i < length f → 48 ≤ get_or f i 0 → get_or f i 0 ≤ 57 → all_ascii_digits (drop i f) ≡ all_ascii_digits f → all_ascii_digits (drop (i + 1) f) ≡ all_ascii_digits f
-digits_more f i h a b e =
-    ap (λ t. t && all_ascii_digits (drop (i + 1) f)) (sym (digit_true (get_or f i 0) a b)) ∙ sym (at_drop_more all_ascii_digits f i 0 h) ∙ e
+pub digits_more : (f : List ℕ) (i : ℕ) → i < length f → is_ascii_digit (get_or f i 0) ≡ true → all_ascii_digits (drop i f) ≡ all_ascii_digits f → all_ascii_digits (drop (i + 1) f) ≡ all_ascii_digits f
+digits_more f i h t e =
+    ap (λ b. b && all_ascii_digits (drop (i + 1) f)) (sym t) ∙ sym (at_drop_more all_ascii_digits f i 0 h) ∙ e
 
 pub read_more : (n : ℕ) (f : List ℕ) (i : ℕ) → i < length f → read_on n (drop i f) ≡ read_on 0 f → read_on (n * 10 + (get_or f i 0 - 48)) (drop (i + 1) f) ≡ read_on 0 f
 read_more n f i h e = sym (at_drop_more (read_on n) f i 0 h) ∙ e
 
-pub written_all : (n : ℕ) (f : List ℕ) (i : ℕ) → length f ≤ i → 0 < length f → (get_or f 0 0 ≡ 48 → ⊥) → read_on n (drop i f) ≡ read_on 0 f → all_ascii_digits (drop i f) ≡ all_ascii_digits f → n < 2 ^ 64
+pub written_all : (n : ℕ) (f : List ℕ) (i : ℕ) → length f ≤ i → 0 < length f → (get_or f 0 0 ≡ 48 → length f ≡ 1) → read_on n (drop i f) ≡ read_on 0 f → all_ascii_digits (drop i f) ≡ all_ascii_digits f → n < 2 ^ 64
     → f ≡ decimal n
 written_all n f i h l z r d b =
-    written_as f n (sym d ∙ at_drop_all all_ascii_digits f i h) l (λ e. absurd (z e)) (sym (at_drop_all (read_on n) f i h) ∙ r) b
+    written_as f n (sym d ∙ at_drop_all all_ascii_digits f i h) l z (sym (at_drop_all (read_on n) f i h) ∙ r) b
 
 -- a field's number by its text
 
@@ -114,3 +106,16 @@ natural_below low high n f b s e h = natural_none low high f (λ m k l u. omega 
 
 pub natural_above : (low high n : ℕ) (f : List ℕ) → high ≤ 1000000000000000 → n < 2 ^ 64 → f ≡ decimal n → high < n → natural low high f ≡ None
 natural_above low high n f b s e h = natural_none low high f (λ m k l u. omega (arith, same_number f m n (omega arith) s k e))
+
+-- the number of a field's text, if it is within the bounds
+pub natural_by : (low high : ℕ) (f : List ℕ) (all kept : Option ℕ) → high ≤ 1000000000000000 → Decimal f all
+    → (all ≡ None → kept ≡ None) → ((n : ℕ) → all ≡ Some n → n < 2 ^ 64)
+    → ((n : ℕ) → all ≡ Some n → n < low → kept ≡ None) → ((n : ℕ) → all ≡ Some n → high < n → kept ≡ None)
+    → ((n : ℕ) → all ≡ Some n → low ≤ n → n ≤ high → kept ≡ Some n) → kept ≡ natural low high f
+natural_by low high f None kept b d none small below above within = none refl ∙ sym (natural_unwritten low high f b d)
+natural_by low high f (Some n) kept b d none small below above within = go (leb low n) (leb n high) refl refl
+  where
+    go : (x y : Bool) → leb low n ≡ x → leb n high ≡ y → kept ≡ natural low high f
+    go false y e g = below n refl (leb-false low n e) ∙ sym (natural_below low high n f b (small n refl) d (leb-false low n e))
+    go true false e g = above n refl (leb-false n high g) ∙ sym (natural_above low high n f b (small n refl) d (leb-false n high g))
+    go true true e g = within n refl (leb-true low n e) (leb-true n high g) ∙ sym (natural_some low high n f (small n refl) d (leb-true low n e) (leb-true n high g))

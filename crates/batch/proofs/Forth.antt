@@ -102,7 +102,7 @@ unfolding cents
 cents_is (pos n) h =
     let some = decimal_nonempty n (omega arith) in
     let d : IsInRange 48 57 (get_or (decimal n) 0 0) = decimal_at n 0 (omega arith) (omega arith) in
-    cents_plain (decimal n) some (λ e. omega (arith, d)) ∙ ap (option_map pos) (natural_is 0 1000000000000000 n (omega arith) h (omega arith))
+    cents_plain (decimal n) (λ l e. omega (arith, d)) ∙ ap (option_map pos) (natural_is 0 1000000000000000 n (omega arith) h (omega arith))
 cents_is (negsuc n) h = ap (option_map (λ m. neg_ℤ (pos m))) (natural_is 1 1000000000000000 (suc n) (omega arith) h (omega arith))
 
 nonzero_is : (v : ℤ) → (v ≡ pos 0 → ⊥) → nonzero (Some v) ≡ Some v

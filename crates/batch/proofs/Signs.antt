@@ -1,14 +1,15 @@
 -- Cents with and without a minus.
-use Rattle.std.proofs.Common.{◌≡◌, ℕ, zero, suc, ◌-◌, ◌<◌, ◌≤◌, Bool, cond, List, [], ◌∷◌, length, get_or, take, drop, pos, negsuc, ◌-ℤ◌, neg_ℤ, None, sym, refl, ap, ◌∙◌, arith, w64, SFits, to_z, of_z, eq-eqb, ne_eqb, le-leb}
+use Rattle.std.proofs.Common.{◌≡◌, ℕ, zero, suc, Some, Option, ◌-◌, ◌<◌, ◌≤◌, Bool, cond, List, [], ◌∷◌, length, get_or, take, drop, pos, negsuc, ◌-ℤ◌, neg_ℤ, None, sym, refl, ap, ◌∙◌, arith, w64, SFits, to_z, of_z, eq-eqb, ne_eqb, le-leb}
 use Rattle.std.proofs.lemmas.List.{take_rest}
 use Rattle.std.proofs.lemmas.Int.{to_z-of_z, to_z_pos}
 use Rattle.std.specs.Option.{option_map}
 use Rattle.batch.specs.Fields.{natural, cents}
+use Rattle.batch.proofs.Digits.{natural_unwritten, unwritten_none}
 
-pub cents_none : (f : List ℕ) → length f ≡ 0 → cents f ≡ None
-unfolding cents
-cents_none [] e = refl
-cents_none (c ∷ cs) e = absurd (omega arith)
+-- what is computed of the value, where there is one
+pub mapped_by : {X Y : Type 0} (g : X → Y) (o : Option X) (r : Option Y) → (o ≡ None → r ≡ None) → ((x : X) → o ≡ Some x → r ≡ Some (g x)) → r ≡ option_map g o
+mapped_by g None r n s = n refl
+mapped_by g (Some x) r n s = s x refl
 
 pub cents_minus : (f : List ℕ) → 0 < length f → get_or f 0 0 ≡ 45 → cents f ≡ option_map (λ n. neg_ℤ (pos n)) (natural 1 1000000000000000 (take (length f - 1) (drop 1 f)))
 unfolding cents
@@ -17,11 +18,11 @@ cents_minus (c ∷ cs) h e =
     ap (λ (t : Bool). cond t (option_map (λ n. neg_ℤ (pos n)) (natural 1 1000000000000000 cs)) (option_map pos (natural 0 1000000000000000 (c ∷ cs)))) (eq-eqb c 45 e)
     ∙ ap (λ l. option_map (λ n. neg_ℤ (pos n)) (natural 1 1000000000000000 l)) (sym (take_rest (c ∷ cs) 1))
 
-pub cents_plain : (f : List ℕ) → 0 < length f → (get_or f 0 0 ≡ 45 → ⊥) → cents f ≡ option_map pos (natural 0 1000000000000000 f)
+pub cents_plain : (f : List ℕ) → (0 < length f → get_or f 0 0 ≡ 45 → ⊥) → cents f ≡ option_map pos (natural 0 1000000000000000 f)
 unfolding cents
-cents_plain [] h e = absurd (omega arith)
-cents_plain (c ∷ cs) h e =
-    ap (λ (t : Bool). cond t (option_map (λ n. neg_ℤ (pos n)) (natural 1 1000000000000000 cs)) (option_map pos (natural 0 1000000000000000 (c ∷ cs)))) (ne_eqb c 45 e)
+cents_plain [] n = sym (ap (option_map pos) (natural_unwritten 0 1000000000000000 [] (omega arith) (unwritten_none [] refl)))
+cents_plain (c ∷ cs) n =
+    ap (λ (t : Bool). cond t (option_map (λ n. neg_ℤ (pos n)) (natural 1 1000000000000000 cs)) (option_map pos (natural 0 1000000000000000 (c ∷ cs)))) (ne_eqb c 45 (n (omega arith)))
 
 below_zero : (n : ℕ) → pos 0 -ℤ pos n ≡ neg_ℤ (pos n)
 below_zero zero = refl

@@ -1,34 +1,25 @@
-use Rattle.std.proofs.Common.{◌≡◌, ◌<◌, length, drop, arith, rules}
-use Rattle.batch.proofs.Digits.{unwritten_none, unwritten_zero, unwritten_low, unwritten_high, unwritten_large, written_zero, written_all, digits_more, read_more}
+use Rattle.std.proofs.Common.{◌≡◌, ◌<◌, length, drop, arith, get_or}
+use Rattle.batch.proofs.Digits.{unwritten_none, unwritten_zero, unwritten_digit, unwritten_large, written_all}
+use Rattle.batch.proofs.numbers.decimal_in.Goals.{in_default, in_default-2, then-not-is_ascii_digit-via-then-not-is_ascii_digit, then-not-is_ascii_digit-via-else-not-is_ascii_digit+then-n-gt-MOST_CENTS}
 use Rattle.batch.proofs.numbers.decimal_in.Goals as goal
 
-pub returns-then-is_empty : goal.returns-then-is_empty
-returns-then-is_empty c = let z : length c.args.field.now ≡ 0 = search rules in unwritten_none c.args.field.now z
+pub returns-in-empty : goal.returns-in-empty
+returns-in-empty c = unwritten_none c.args.field.now (omega arith)
 
-pub returns-then-c-lt48 : goal.returns-then-c-lt48
-returns-then-c-lt48 c = unwritten_low c.args.field.now c.loop-c.c-index (omega arith) c.if-c-lt48.true
+pub returns-in-empty-2 : goal.returns-in-empty-2
+returns-in-empty-2 c = unwritten_zero c.args.field.now (omega arith) (λ e. omega arith)
 
-pub returns-then-c-gt57 : goal.returns-then-c-gt57
-returns-then-c-gt57 c = unwritten_high c.args.field.now c.loop-c.c-index (omega arith) c.if-c-gt57.true
-
-pub returns-then-n-gt-MOST_CENTS : goal.returns-then-n-gt-MOST_CENTS
-returns-then-n-gt-MOST_CENTS c = unwritten_large c.args.field.now (drop c.loop-c.c-index c.args.field.now) c.loop-c.n c.loop-c.invariant.0 (omega arith)
-
-pub loop-c-preserved : goal.loop-c-preserved
-loop-c-preserved c =
+pub returns-then-not-is_ascii_digit : goal.returns-then-not-is_ascii_digit
+returns-then-not-is_ascii_digit c =
     let f = c.args.field.now in
-    let i = c.loop-c.c-index in
-    let h : i < length f = omega arith in
-    (read_more c.loop-c.n f i h c.loop-c.invariant.0, digits_more f i h (omega arith) (omega arith) c.loop-c.invariant.1, omega arith)
+    elim c.then-not-is_ascii_digit.branch [
+      | then-not-is_ascii_digit-via-then-not-is_ascii_digit w ↦ unwritten_digit f c.loop-c.c-index (omega arith) w.if-not-is_ascii_digit.ensures.value
+      | then-not-is_ascii_digit-via-else-not-is_ascii_digit+then-n-gt-MOST_CENTS w ↦ unwritten_large f (drop c.loop-c.c-index f) c.loop-c.n c.loop-c.invariant.0 (omega arith)
+    ]
 
 pub returns : goal.returns
 returns c =
     let f = c.args.field.now in
-    let some : 0 < length f = search rules in
-    written_all c.loop-c.n f c.loop-c.c-index (omega arith) some c.if-field-eq48.false c.loop-c.invariant.0 c.loop-c.invariant.1 (omega arith)
-
-pub returns-then-field-eq1 : goal.returns-then-field-eq1
-returns-then-field-eq1 c = written_zero c.args.field.now c.if-field-eq48.true c.if-field-eq1.true
-
-pub returns-else-field-eq1 : goal.returns-else-field-eq1
-returns-else-field-eq1 c = unwritten_zero c.args.field.now c.if-field-eq48.true c.if-field-eq1.false
+    let some : 0 < length f = omega arith in
+    let z : get_or f 0 0 ≡ 48 → length f ≡ 1 = elim c.if-field-lt2.branch [ in_default w ↦ λ e. (omega arith) | in_default-2 w ↦ λ e. (omega arith) ] in
+    written_all c.loop-c.n f c.loop-c.c-index (omega arith) some z c.loop-c.invariant.0 c.loop-c.invariant.1 (omega arith)
