@@ -36,11 +36,11 @@ pub struct PostingId {
 pub struct Entry {
     pub house: u8,
     pub number: u32,
-    // A void posting gives no account a value.
+    // A void posting gives no account a value. The mark is a field of its own, since a record may claim both, which is no entry.
     pub void: bool,
     // The hand is the value that a house carries from one posting to its next, here as this posting leaves it.
     pub hand: i64,
-    // How many of the pairs count; the others are padding.
+    // How many of the pairs count; the others are padding, since a record of the host's memory has one size.
     pub count: u8,
     pub pairs: [Pair; MAX_PAIRS],
 }
@@ -90,6 +90,7 @@ fn pair_fits(pair: &Pair, least: u8) -> bool
     least <= pair.account && pair.account <= LAST_ACCOUNT && in_range(pair.value)
 }
 
+// Each pair is tested against the one before it: a loop says that plainer than a fold that stops.
 fn pairs_rise(pairs: &[Pair]) -> bool
     ensures { result ≡ rises 0 pairs.now }
 {

@@ -9,7 +9,7 @@ ghost use Rattle.std.specs.List.{slice_get};
 #[derive(Clone, Copy, Debug, PartialEq, Eq)]
 pub struct Full;
 
-// The first `used` cells hold the list.
+// The first `used` cells hold the list. The memory is the lender's, so how much of it is used stands beside it.
 #[derive(Drop)]
 pub struct Roll<'a, T> {
     cells: &'a mut [T],
