@@ -15,4 +15,4 @@ book_lawful b k e h =
     let n = leaves_used 4096 bs in
     let within : k < n = nth_within n k bs e h in
     let same : entry_on (leaf_at bs k) ≡ e = let is = on_leaf n k bs (leaf_at bs k) within refl ∙ h in cc in
-    (omega arith, subst Lawful same (lawful_from (entry_on (leaf_at bs k)) (b.entries k (omega arith))))
+    (omega arith, subst Lawful same (lawful_from (entry_on (leaf_at bs k)) (b.good k (omega arith)).0))

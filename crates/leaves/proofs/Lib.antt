@@ -7,3 +7,4 @@ pub mod PageEntries
 pub mod PageBooks
 pub mod Opened
 pub mod BookEntries
+pub mod LeavesGood

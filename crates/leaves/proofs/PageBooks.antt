@@ -1,14 +1,15 @@
 -- Leaves in use, with one more of them, and as a closed book.
-use Rattle.std.proofs.Common.{◌≡◌, ℕ, suc, ◌+◌, ◌*◌, ◌/◌, ◌<◌, ◌≤◌, List, [], ◌∷◌, ◌++◌, length, get_or, take, drop, sym, ap, ◌∙◌, subst, add-one, arith}
+use Rattle.std.proofs.Common.{◌≡◌, ℕ, suc, ◌+◌, ◌*◌, ◌/◌, ◌<◌, ◌≤◌, List, [], ◌∷◌, ◌++◌, length, get_or, take, drop, sym, ap, ◌∙◌, subst, add-one, arith, below_more}
 use Rattle.std.proofs.lemmas.List.{append_assoc, length-append, length-take-le, length-drop, take-append-drop, take-append-le, drop-append-le, take_at, drop_at}
 use Rattle.std.specs.List.{HoldsAt, AllWithin}
 use Rattle.std.specs.Simd.{first_chunks}
-use Rattle.journal.specs.Entries.{Posted, posted, IsEntry}
-use Rattle.leaves.specs.Leaf.{entry_on, leaf_of, IsLeaf}
-use Rattle.leaves.specs.Pages.{leaf_at, leaf_put, entries_on, GoodBook}
+use Rattle.journal.specs.Entries.{Posted, posted, Lawful, IsEntry}
+use Rattle.leaves.specs.Leaf.{entry_on, leaf_of, IsLeaf, IsLeafOfItsEntry}
+use Rattle.leaves.specs.Pages.{leaf_at, leaf_put, entries_on, LeavesOfEntries, GoodBook}
 use Rattle.journal.specs.declared.entry.Entry.{Entry}
 use Rattle.leaves.proofs.PageEntries.{entries_front, entries_last, length_leaves, nth_leaf}
 use Rattle.leaves.proofs.RoundTrip.{reads_back, length_leaf}
+use Rattle.leaves.proofs.LeafTest.{own_leaf, leaf_of_own}
 
 pub length_put : (bs leaf : List ℕ) (n : ℕ) → length leaf ≡ 160 → 160 * n + 160 ≤ length bs → length (leaf_put bs n leaf) ≡ length bs
 length_put bs leaf n ll room =
@@ -65,13 +66,20 @@ front_entries bs n h =
     ∙ sym (entries_front n (take (160 * n) bs) (drop (160 * n) bs) (omega arith))
     ∙ ap (entries_on n) (take-append-drop (160 * n) bs)
 
-pub front_good : (bs : List ℕ) (n : ℕ) → 160 * n ≤ length bs → n ≤ 4096 → ((k : ℕ) → k < n → IsLeaf (leaf_at bs k)) → GoodBook (take (160 * n) bs)
+pub front_good : (bs : List ℕ) (n : ℕ) → 160 * n ≤ length bs → n ≤ 4096 → LeavesOfEntries n bs → GoodBook (take (160 * n) bs)
 front_good bs n h few good =
     let long = length-take-le (160 * n) bs h in
     record {
       whole = (omega arith, omega arith);
-      leaves = λ k l. subst IsLeaf (sym (leaf_take bs (160 * n) k h (omega arith))) (good k (omega arith));
+      leaves = λ k l. subst IsLeaf (sym (leaf_take bs (160 * n) k h (omega arith))) (leaf_of_own (leaf_at bs k) (good k (omega arith)));
     }
+
+-- with one leaf more, each is the leaf of its entry still
+pub more_good : (bs leaf : List ℕ) (n : ℕ) (e : Posted) → 160 * n ≤ length bs → length leaf ≡ 160 → leaf ≡ leaf_of e → Lawful e → LeavesOfEntries n bs → LeavesOfEntries (n + 1) (leaf_put bs n leaf)
+more_good bs leaf n e h ll is ok good k lt =
+    below_more (λ (j : ℕ). IsLeafOfItsEntry (leaf_at (leaf_put bs n leaf) j)) n
+    (λ j l. subst IsLeafOfItsEntry (sym (leaf_below bs leaf n j h l)) (good j l))
+    (subst IsLeafOfItsEntry (sym (leaf_same bs leaf n h ll)) (own_leaf leaf (e, ok, is))) k lt
 
 leaf_is : (bs : List ℕ) (ls : List (List ℕ)) (n : ℕ) → ls ≡ first_chunks 160 n bs → (k : ℕ) → k < n → get_or ls k [] ≡ leaf_at bs k
 leaf_is bs ls n is k h = ap (λ (xs : List (List ℕ)). get_or xs k []) is ∙ nth_leaf n k bs [] h

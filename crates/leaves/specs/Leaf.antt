@@ -2,11 +2,11 @@
 --   0 house, 1 void mark (0 or 1), 2 count of pairs, 3 zero, 4-7 number, 8-15 hand,
 --   16-31 the accounts of the pairs, 32-159 their values, eight bytes each
 -- The hand and the values are in two's complement. Unused places are zero.
-use Rattle.std.specs.Prelude.{◌≡◌, ℕ, zero, suc, ◌+◌, ◌-◌, ◌*◌, ◌/◌, ◌%◌, min, cond, List, [], ◌∷◌, ◌++◌, map, length, drop, replicate, ℤ, ◌==◌, slice_index}
+use Rattle.std.specs.Prelude.{◌≡◌, ℕ, zero, suc, ◌+◌, ◌-◌, ◌*◌, ◌/◌, ◌%◌, min, true, cond, List, [], ◌∷◌, ◌++◌, map, length, drop, replicate, ℤ, ◌==◌, slice_index}
 use Rattle.std.proofs.Common.{to_z, of_z}
 use Rattle.std.specs.Int.{w64}
 use Rattle.std.specs.List.{flat_map}
-use Rattle.journal.specs.Entries.{Posted, Lawful}
+use Rattle.journal.specs.Entries.{Posted, Lawful, lawful}
 use Rattle.journal.specs.declared.entry.Pair.{Pair}
 
 abbrev pub bytes32 : ℕ → List ℕ
@@ -68,6 +68,10 @@ entry_on bs = record {
 -- bytes are a leaf if they are the leaf of some entry
 abbrev pub IsLeaf : List ℕ → Type 0
 IsLeaf bs = (e : Posted) × Lawful e × (bs ≡ leaf_of e)
+
+-- the same in equations: bytes say an entry, and are the leaf of that entry
+abbrev pub IsLeafOfItsEntry : List ℕ → Type 0
+IsLeafOfItsEntry bs = (lawful (entry_on bs) ≡ true) × (leaf_of (entry_on bs) ≡ bs)
 
 -- an entry put on a leaf reads back equal
 abbrev pub ReadsBack : Type 0

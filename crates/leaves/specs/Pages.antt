@@ -1,7 +1,7 @@
 -- Leaves one after the other: which entries stand on them, and when bytes are a closed book.
 use Rattle.std.specs.Prelude.{◌≡◌, ℕ, zero, suc, ◌+◌, ◌*◌, ◌/◌, ◌%◌, ◌<◌, ◌≤◌, min, ◌⊎◌, List, [], ◌∷◌, ◌++◌, length, take, drop, Ok, Err, Result}
 use Rattle.journal.specs.Entries.{Posted}
-use Rattle.leaves.specs.Leaf.{entry_on, IsLeaf}
+use Rattle.leaves.specs.Leaf.{entry_on, IsLeaf, IsLeafOfItsEntry}
 use Rattle.leaves.specs.declared.book_check.BookRefusal.{BookRefusal}
 use Rattle.leaves.specs.declared.book_check.BookRefusal.TheVariants.{NotWholeLeaves, BrokenLeaf}
 
@@ -29,6 +29,10 @@ leaves_used used bs = min used (whole_leaves bs)
 -- the entries on the leaves in use
 abbrev pub page_entries : ℕ → List ℕ → List Posted
 page_entries used bs = entries_on (leaves_used used bs) bs
+
+-- the first n leaves are leaves of their entries
+abbrev pub LeavesOfEntries : ℕ → List ℕ → Type 0
+LeavesOfEntries n bs = (k : ℕ) → k < n → IsLeafOfItsEntry (leaf_at bs k)
 
 -- whole leaves, at most 4,096 of them
 abbrev pub WholeBook : List ℕ → Type 0

@@ -12,7 +12,7 @@ leaf_entries l = page_entries l.used l.bytes.now
 abbrev pub leaf_size : Leaves → ℕ
 leaf_size l = whole_leaves l.bytes.now
 
--- each leaf in use is the leaf of its entry; so it is from the making of the journal on
+-- each leaf in use is the leaf of its entry; so it is in every journal
 abbrev pub GoodLeaves : Leaves → Type 0
 GoodLeaves l = (k : ℕ) → k < leaves_used l.used l.bytes.now → IsLeaf (leaf_at l.bytes.now k)
 

@@ -3,6 +3,7 @@
 
 mod book_check;
 mod book_reading;
+mod byte_filing;
 mod byte_journal;
 mod closed_book;
 mod leaf;

@@ -1,5 +1,5 @@
 -- What a refused push tells of the room before it.
-use Rattle.std.proofs.Common.{◌≡◌, ℕ, ◌≤◌, Bool, true, false, cond, ltb, Ok, Err, Result, refl, arith}
+use Rattle.std.proofs.Common.{◌≡◌, ℕ, ◌≤◌, Bool, true, false, cond, ltb, Ok, Err, Result, refl}
 use Rattle.std.proofs.lemmas.Bool.{ltb-false}
 use Rattle.roll.specs.Rolls.{pushing}
 use Rattle.roll.specs.declared.Full.{Full}

@@ -30,5 +30,5 @@ returns c =
     record {
       value = ap (λ (k : ℕ). take (160 * k) bs) c.length-end.ensures;
       entries = ap (λ (xs : List ℕ). entries_on (length xs / 160) xs) same ∙ front_entries bs used fits;
-      good = λ h. subst GoodBook (sym same) (front_good bs used fits (omega arith) h);
+      good = subst GoodBook (sym same) (front_good bs used fits (omega arith) l.good);
     }

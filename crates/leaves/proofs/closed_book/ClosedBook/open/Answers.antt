@@ -3,7 +3,7 @@ use Rattle.leaves.proofs.closed_book.ClosedBook.open.Goals as goal
 
 pub invariant_of-result : goal.invariant_of-result
 invariant_of-result c =
-    record { entries = λ k l. (kept_leaves _ _ c.checked.ensures k l).0; leaves = λ k l. (kept_leaves _ _ c.checked.ensures k l).1 }
+    record { good = kept_leaves _ _ c.checked.ensures }
 
 pub returns : goal.returns
 returns c = kept_opened _ _ c.checked.ensures

@@ -1,6 +1,6 @@
 use Rattle.std.proofs.Common.{List, ℕ, length, sym, ap, ◌∙◌}
 use Rattle.leaves.proofs.PageEntries.{length_entries, length_leaves}
-use Rattle.leaves.proofs.byte_journal.LeavesReading.length.Goals as goal
+use Rattle.leaves.proofs.byte_filing.LeavesReading.length.Goals as goal
 
 pub returns : goal.returns
 returns c =

@@ -1,7 +1,7 @@
 use Rattle.std.proofs.Common.{◌≡◌, List, ℕ, length, ap, ◌∙◌, arith}
 use Rattle.leaves.specs.Pages.{whole_leaves, leaves_used}
 use Rattle.leaves.proofs.PageEntries.{length_entries, length_leaves}
-use Rattle.leaves.proofs.byte_journal.LeavesReading.size.Goals as goal
+use Rattle.leaves.proofs.byte_filing.LeavesReading.size.Goals as goal
 
 pub returns : goal.returns
 returns c =
