@@ -7,6 +7,7 @@ use Rattle.journal.specs.Balances.{balance_after}
 use Rattle.journal.specs.declared.entry.Entry.{Entry}
 use Rattle.journal.specs.declared.entry.Pair.{Pair}
 use Rattle.posting.specs.Sources.{Meaning}
+use Rattle.posting.specs.declared.balances.Balances.{Balances}
 use Rattle.posting.specs.declared.order.Order.{Order}
 use Rattle.posting.specs.declared.order.Order.TheVariants.{Read, Write, GoOn, Done, Void}
 use Rattle.posting.specs.declared.sheet.Sheet.{Sheet}
@@ -100,6 +101,10 @@ alone m balance house number start = worked m house number balance start m.longe
 -- the balances after k entries: those of all entries, if there are fewer
 abbrev pub balances_after : List Posted → List ℤ → ℕ → ℕ → ℤ
 balances_after es openings k a = balance_after es (slice_index_or openings a (pos 0)) a k
+
+-- the same of the balances of a reading, of which `entries` tells its list
+abbrev pub balances_of : {R : Type 0} → (R → List Posted) → Balances R → ℕ → ℤ
+balances_of entries b = balances_after (entries b.journal.now) b.openings.now b.k
 
 -- the entry that a draft makes
 abbrev pub entry_for : Draft → ℕ → ℕ → Entry

@@ -1,6 +1,6 @@
 // The balances that a posting is worked on.
 ghost use Rattle.std.specs.Prelude.{◌≡◌, ◌≤◌};
-ghost use Rattle.posting.specs.Alone.{balances_after};
+ghost use Rattle.posting.specs.Alone.{balances_of};
 
 use journal::{ACCOUNTS, Reading, last_given};
 
@@ -16,7 +16,7 @@ impl<'a, R: Reading> Balances<'a, R> {
     // The balance of an account.
     pub(crate) fn of(&self, account: u8) -> i64
         requires { account ≤ 63 }
-        ensures { result ≡ balances_after (R.Reading.entries self.now.journal.now) self.now.openings.now self.now.k account }
+        ensures { result ≡ balances_of R.Reading.entries self.now account }
     {
         last_given(self.journal, account, self.k).map_or(
             self.openings[account as usize],

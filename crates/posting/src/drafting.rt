@@ -1,6 +1,6 @@
 // A posting worked alone, for any source over any reading of a journal.
 ghost use Rattle.std.specs.Prelude.{◌≡◌, ◌≤◌};
-ghost use Rattle.posting.specs.Alone.{balances_after, line_of, outcome, alone, Local, Enterable};
+ghost use Rattle.posting.specs.Alone.{balances_after, balances_of, line_of, outcome, alone, Local, Enterable};
 
 use crate::balances::Balances;
 use crate::order::Order;
@@ -17,7 +17,7 @@ fn work_line<S: Source, R: Reading>(
     line: usize,
     sheet: &mut Sheet,
 ) -> ControlFlow<Ending>
-    ensures { (result, sheet.new) ≡ line_of (S.Source.meaning source.now) posting.house posting.number (balances_after (R.Reading.entries balances.now.journal.now) balances.now.openings.now balances.now.k) line sheet.old }
+    ensures { (result, sheet.new) ≡ line_of (S.Source.meaning source.now) posting.house posting.number (balances_of R.Reading.entries balances.now) line sheet.old }
 {
     let question = Question {
         posting,

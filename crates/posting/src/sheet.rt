@@ -1,13 +1,13 @@
 // What is noted while a posting is worked, and what it comes to.
 ghost use Rattle.std.specs.Prelude.{◌≡◌, ◌+◌, ◌<◌, ◌≤◌, true, [], ◌∷◌, ◌++◌, length, None, slice_index_or};
 ghost use Rattle.journal.specs.Entries.{posted, is_entry, Lawful};
-ghost use Rattle.posting.specs.Alone.{outcome, listed, blank, balances_after, sought, noted, told, pairs_from, closed, voided, entry_for, posted_for};
+ghost use Rattle.posting.specs.Alone.{outcome, listed, blank, balances_of, sought, noted, told, pairs_from, closed, voided, entry_for, posted_for};
 
 use crate::balances::Balances;
 use journal::{ACCOUNTS, Entry, MAX_PAIRS, Pair, PostingId, Reading};
 use std::ops::ControlFlow::{self, Break, Continue};
 
-// A posting that is being worked, account by account.
+// A posting that is being worked, account by account. Its tables stay two, since a draft takes the first over as it is.
 #[derive(Clone, Copy, Debug)]
 pub struct Sheet {
     // The present hand.
@@ -56,7 +56,7 @@ impl Sheet {
     // The value that a read of an account finds: what this posting has written, or else the balance, which joins the reads.
     pub(crate) fn find<R: Reading>(&mut self, account: u8, balances: &Balances<'_, R>) -> i64
         requires { account ≤ 63 }
-        ensures value { result ≡ sought (slice_index_or self.old.written account None) (balances_after (R.Reading.entries balances.now.journal.now) balances.now.openings.now balances.now.k account) }
+        ensures value { result ≡ sought (slice_index_or self.old.written account None) (balances_of R.Reading.entries balances.now account) }
         ensures sheet { self.new ≡ noted (slice_index_or self.old.written account None) account self.old }
     {
         match self.written[account as usize] {
