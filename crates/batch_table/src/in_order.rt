@@ -13,9 +13,9 @@ pub struct Reached {
     // The house of the last record, and how many records of it have come.
     pub house: u8,
     pub here: usize,
-    // Where the order lines of the last record begin, and how many it may have: none before the first record. A count, and no
-    // `Option` of a record, so that no test has a case for the start.
+    // Where the order lines of the last record begin.
     pub first: usize,
+    // How many it may have: none before the first record. A count and no `Option`, so that no test has a case for the start.
     pub most: usize,
 }
 

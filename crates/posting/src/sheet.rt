@@ -36,7 +36,7 @@ pub struct Draft {
     pub void: bool,
     // The hand that the posting leaves its house with.
     pub hand: i64,
-    // How many of the pairs count; the others are padding. An entry, which takes both over, lies in fixed memory.
+    // How many of the pairs count; the others are padding. A length beside fixed memory, as in the entry that takes both over.
     pub count: u8,
     pub pairs: [Pair; MAX_PAIRS],
 }
