@@ -1,6 +1,5 @@
 -- An accepted line keeps its limits.
-use Rattle.std.proofs.Common.{◌≡◌, ℕ, zero, suc, ◌-◌, ◌≤◌, min, Bool, true, false, cond, ◌&&◌, eqb, leb, List, [], ◌∷◌, length, get_or, ℤ, pos, negsuc, neg_ℤ, nat_abs, Some, None, Ok, Err, decimal, Option, Result, sym, refl, ap, ◌∙◌, subst, arith, ltb-true, eq-eqb, ne_eqb, eqb-true, leb-true}
-use borrow.Author.Tests.{eqb-false}
+use Rattle.std.proofs.Common.{◌≡◌, ℕ, zero, suc, ◌+◌, ◌-◌, ◌<◌, ◌≤◌, min, drop, Bool, true, false, cond, ◌&&◌, eqb, leb, List, [], ◌∷◌, length, get_or, ℤ, pos, negsuc, neg_ℤ, nat_abs, Some, None, Ok, Err, decimal, Option, Result, sym, refl, ap, ◌∙◌, subst, arith, ltb-true, ne_eqb, eqb-true, leb-true}
 use Rattle.std.specs.Option.{option_map}
 use Rattle.std.specs.Str.Parse.{digits_value}
 use Rattle.std.specs.Str.{bytes_eq}
@@ -19,8 +18,15 @@ use Rattle.batch.specs.declared.progress.Progress.{Progress}
 use Rattle.batch.specs.declared.progress.Sizes.{Sizes}
 use Rattle.batch.specs.Fields.{natural, cents, nonzero}
 use Rattle.batch.specs.Limits.{Within, Allowed, Ordered, mark_of, kind_of}
-use Rattle.batch.specs.Marks.{mark_in, field_count, stands, follows, counts}
-use Rattle.batch.specs.Parts.{fields, first_line, Split}
+use Rattle.batch.specs.Marks.{letter_mark, mark_in, field_count, stands, follows, counts}
+use Rattle.batch.specs.declared.cutting.Fields.{Fields}
+use Rattle.batch.specs.declared.cutting.Fields.TheVariants.{Zero, One, Two, Three, More}
+use Rattle.batch.specs.declared.cutting.Next.{Next}
+use Rattle.batch.specs.declared.judging.Judged.{Judged}
+use Rattle.batch.specs.Judging.{Judges, JudgesLine}
+use Rattle.batch.specs.Cuts.{fields_in, after_in, field_total, first_in, second_in, third_in, Lists}
+use Rattle.batch.specs.Parts.{fields, first_line, after_line, first_field}
+use Rattle.batch.proofs.Cuts.{fields_more}
 use Rattle.batch.specs.Rules.{ask, order_in, said_by, room_for, seated, tested, judged}
 
 pub natural_bounds : (low high : ℕ) (f : List ℕ) (n : ℕ) → natural low high f ≡ Some n → (low ≤ n) × (n ≤ high)
@@ -172,29 +178,106 @@ judged_few t s fs i e =
     let q = tested_ok t s (length fs) (mark_in (get_or fs 0 [])) (get_or fs 1 []) (get_or fs 2 []) (get_or fs 3 []) i e in
     omega (arith, q.2.form, few_fields q.0)
 
--- a line by its split
+-- a line with more than three fields after its mark has the wrong count of them
 
-pub tested_form : (t : Sizes) (s : Progress) (n : ℕ) (o : Option Mark) (m : Mark) (a b c : List ℕ) → o ≡ Some m → (n ≡ field_count m → ⊥) → tested t s n o a b c ≡ Err Form
-tested_form t s n o m a b c e h =
-    ap (λ x. tested t s n x a b c) e
-    ∙ ap (λ (b' : Bool). cond b' (cond (stands s m) (seated t s (said_by s m a b c)) (Err Place)) (Err Form)) (ne_eqb n (field_count m) h)
+many_form : (t : Sizes) (s : Progress) (n : ℕ) (o : Option Mark) (a b c : List ℕ) → 5 ≤ n → tested t s n o a b c ≡ Err Form
+many_form t s n None a b c h = refl
+many_form t s n (Some m) a b c h =
+    let ne : n ≡ field_count m → ⊥ = λ e. omega (arith, few_fields m) in
+    ap (λ (b' : Bool). cond b' (cond (stands s m) (seated t s (said_by s m a b c)) (Err Place)) (Err Form)) (ne_eqb n (field_count m) ne)
 
-same_test : (n k : ℕ) → k ≤ 4 → eqb (min 5 n) k ≡ eqb n k
-same_test n k h = go (eqb n k) refl
+-- a line by its letter and its fields
+pub listed_judged : (t : Sizes) (s : Progress) (letter : ℕ) (f : Fields) (fs : List (List ℕ)) → Lists f fs
+    → tested t s (field_total f + 1) (letter_mark letter) (first_in f) (second_in f) (third_in f) ≡ judged t s ((letter ∷ []) ∷ fs)
+listed_judged t s letter Zero fs h = ap (λ x. judged t s ((letter ∷ []) ∷ x)) (sym h)
+listed_judged t s letter (One a) fs h = ap (λ x. judged t s ((letter ∷ []) ∷ x)) (sym h)
+listed_judged t s letter (Two a b) fs h = ap (λ x. judged t s ((letter ∷ []) ∷ x)) (sym h)
+listed_judged t s letter (Three a b c) fs h = ap (λ x. judged t s ((letter ∷ []) ∷ x)) (sym h)
+listed_judged t s letter More fs h =
+    many_form t s 5 (letter_mark letter) [] [] [] (omega arith) ∙ sym (many_form t s (length ((letter ∷ []) ∷ fs)) (letter_mark letter) (get_or fs 0 []) (get_or fs 1 []) (get_or fs 2 []) (omega arith))
+
+-- the first line by its first two bytes
+
+no_mark : (t : Sizes) (s : Progress) (fs : List (List ℕ)) → mark_in (get_or fs 0 []) ≡ None → judged t s fs ≡ Err Form
+no_mark t s fs e = ap (λ o. tested t s (length fs) o (get_or fs 1 []) (get_or fs 2 []) (get_or fs 3 [])) e
+
+pub record Begun (t : Sizes) (s : Progress) (text : List ℕ) (letter : ℕ) (fs : List (List ℕ)) (after : List ℕ) : Type 0 where
+  pub said : judged t s (fields (first_line text)) ≡ judged t s ((letter ∷ []) ∷ fs)
+  pub rest : (i : Item) → judged t s (fields (first_line text)) ≡ Ok i → after_line text ≡ after
+
+-- a comma or a line feed is no mark, so whatever is cut there is refused
+begun_by : (t : Sizes) (s : Progress) (c : ℕ) (text : List ℕ) (fs : List (List ℕ)) (after : List ℕ)
+    → fields (first_line text) ≡ cond (eqb c 10) ([] ∷ []) (cond (eqb c 44) ([] ∷ [] ∷ fs) ((c ∷ []) ∷ fs)) → (eqb c 10 ≡ false → after_line text ≡ after) → Begun t s text c fs after
+begun_by t s c text fs after e g = go (eqb c 10) (eqb c 44) refl refl e
   where
-    go : (b : Bool) → eqb n k ≡ b → eqb (min 5 n) k ≡ b
-    go true e = eq-eqb (min 5 n) k (omega (arith, eqb-true n k e))
-    go false e = ne_eqb (min 5 n) k (λ z. omega (arith, eqb-false n k e))
+    wrong : (l : List (List ℕ)) (n : ℕ) → c ≡ n → letter_mark n ≡ None → mark_in (get_or l 0 []) ≡ None → fields (first_line text) ≡ l → Begun t s text c fs after
+    wrong l n k m z d =
+        let refused : judged t s (fields (first_line text)) ≡ Err Form = ap (judged t s) d ∙ no_mark t s l z in
+        record {
+          said = refused ∙ sym (no_mark t s ((c ∷ []) ∷ fs) (ap letter_mark k ∙ m));
+          rest = λ i j. absurd (let h : Ok i ≡ Err Form = sym j ∙ refused in let z : ◌≡◌ {A = ℕ} 0 1 = cc in omega arith);
+        }
 
-capped : (t : Sizes) (s : Progress) (n : ℕ) (o : Option Mark) (a b c : List ℕ) → tested t s (min 5 n) o a b c ≡ tested t s n o a b c
-capped t s n None a b c = refl
-capped t s n (Some m) a b c = ap (λ (x : Bool). cond x (cond (stands s m) (seated t s (said_by s m a b c)) (Err Place)) (Err Form)) (same_test n (field_count m) (few_fields m))
+    go : (x y : Bool) → eqb c 10 ≡ x → eqb c 44 ≡ y → fields (first_line text) ≡ cond x ([] ∷ []) (cond y ([] ∷ [] ∷ fs) ((c ∷ []) ∷ fs)) → Begun t s text c fs after
+    go true y h k d = wrong ([] ∷ []) 10 (eqb-true c 10 h) refl refl d
+    go false true h k d = wrong ([] ∷ [] ∷ fs) 44 (eqb-true c 44 k) refl refl d
+    go false false h k d = record { said = ap (judged t s) d; rest = λ i j. g h }
 
-pub split_judged : (t : Sizes) (s : Progress) (text : List ℕ) (n : ℕ) (m a b c r : List ℕ) → Split text n m a b c r → tested t s n (mark_in m) a b c ≡ judged t s (fields (first_line text))
-split_judged t s text n m a b c r h =
-    let fs = fields (first_line text) in
-    ap (λ x. tested t s x (mark_in m) a b c) h.count ∙ capped t s (length fs) (mark_in m) a b c
-    ∙ ap (λ x. tested t s (length fs) (mark_in x) a b c) h.mark
-    ∙ ap (λ x. tested t s (length fs) (mark_in (get_or fs 0 [])) x b c) h.first
-    ∙ ap (λ x. tested t s (length fs) (mark_in (get_or fs 0 [])) (get_or fs 1 []) x c) h.second
-    ∙ ap (λ x. tested t s (length fs) (mark_in (get_or fs 0 [])) (get_or fs 1 []) (get_or fs 2 []) x) h.third
+pub begun_comma : (t : Sizes) (s : Progress) (text rest : List ℕ) → 1 < length text → get_or text 1 0 ≡ 44 → rest ≡ drop 2 text
+    → Begun t s text (get_or text 0 0) (fields (first_line rest)) (after_line rest)
+begun_comma t s [] rest l e r = absurd (omega arith)
+begun_comma t s (c ∷ []) rest l e r = absurd (omega arith)
+begun_comma t s (c ∷ d ∷ cs) rest l e r = subst (λ x. Begun t s (c ∷ x ∷ cs) c (fields (first_line rest)) (after_line rest)) (sym e)
+    (subst (λ x. Begun t s (c ∷ 44 ∷ cs) c (fields (first_line x)) (after_line x)) (sym r)
+    (begun_by t s c (c ∷ 44 ∷ cs) (fields (first_line cs)) (after_line cs) (go (eqb c 10) (eqb c 44) refl) (λ h. ap (λ (b : Bool). cond b (44 ∷ cs) (after_line cs)) h)))
+  where
+    go : (x y : Bool) → eqb c 44 ≡ y
+        → fields (cond x [] (c ∷ 44 ∷ first_line cs)) ≡ cond x ([] ∷ []) (cond y ([] ∷ [] ∷ fields (first_line cs)) ((c ∷ []) ∷ fields (first_line cs)))
+    go true y h = refl
+    go false y h = ap (λ (b : Bool). cond b ([] ∷ [] ∷ fields (first_line cs)) ((c ∷ []) ∷ fields (first_line cs))) h
+
+pub begun_feed : (t : Sizes) (s : Progress) (text rest : List ℕ) → 1 < length text → get_or text 1 0 ≡ 10 → rest ≡ drop 2 text
+    → Begun t s text (get_or text 0 0) [] rest
+begun_feed t s [] rest l e r = absurd (omega arith)
+begun_feed t s (c ∷ []) rest l e r = absurd (omega arith)
+begun_feed t s (c ∷ d ∷ cs) rest l e r = subst (λ x. Begun t s (c ∷ x ∷ cs) c [] rest) (sym e)
+    (begun_by t s c (c ∷ 10 ∷ cs) [] rest (alone_fields c (eqb c 10) (eqb c 44) refl) (λ h. ap (λ (b : Bool). cond b (10 ∷ cs) cs) h ∙ sym r))
+  where
+    alone_fields : (c : ℕ) (x y : Bool) → eqb c 44 ≡ y → fields (cond x [] (c ∷ [])) ≡ cond x ([] ∷ []) (cond y ([] ∷ [] ∷ []) ((c ∷ []) ∷ []))
+    alone_fields c true y h = refl
+    alone_fields c false y h = ap (λ (b : Bool). cond b ([] ∷ [] ∷ []) ((c ∷ []) ∷ [])) h
+
+pub begun_alone : (t : Sizes) (s : Progress) (text : List ℕ) → length text ≡ 1 → Begun t s text (get_or text 0 0) [] []
+begun_alone t s [] l = absurd (omega arith)
+begun_alone t s (c ∷ d ∷ cs) l = absurd (omega arith)
+begun_alone t s (c ∷ []) l = begun_by t s c (c ∷ []) [] [] (alone_fields c (eqb c 10) (eqb c 44) refl) (λ h. ap (λ (b : Bool). cond {A = List ℕ} b [] []) h)
+  where
+    alone_fields : (c : ℕ) (x y : Bool) → eqb c 44 ≡ y → fields (cond x [] (c ∷ [])) ≡ cond x ([] ∷ []) (cond y ([] ∷ [] ∷ []) ((c ∷ []) ∷ []))
+    alone_fields c true y h = refl
+    alone_fields c false y h = ap (λ (b : Bool). cond b ([] ∷ [] ∷ []) ((c ∷ []) ∷ [])) h
+
+-- no mark is longer than one letter
+pub begun_by_none : (t : Sizes) (s : Progress) (text : List ℕ) → (length text ≡ 1 → ⊥) → (1 < length text → get_or text 1 0 ≡ 44 → ⊥) → (1 < length text → get_or text 1 0 ≡ 10 → ⊥)
+    → judged t s (fields (first_line text)) ≡ Err Form
+begun_by_none t s text one comma feed = no_mark t s (fields (first_line text)) (ap (λ l. mark_in (get_or l 0 [])) (fields_more text) ∙ go text one comma feed)
+  where
+    longer : (x y : Bool) (c d : ℕ) (l : List ℕ) → mark_in (cond x [] (cond y [] (c ∷ d ∷ l))) ≡ None
+    longer true y c d l = refl
+    longer false true c d l = refl
+    longer false false c d l = refl
+
+    go : (l : List ℕ) → (length l ≡ 1 → ⊥) → (1 < length l → get_or l 1 0 ≡ 44 → ⊥) → (1 < length l → get_or l 1 0 ≡ 10 → ⊥) → mark_in (first_field l) ≡ None
+    go [] one comma feed = refl
+    go (c ∷ []) one comma feed = absurd (one refl)
+    go (c ∷ d ∷ cs) one comma feed =
+        ap (λ (b : Bool). mark_in (cond (eqb c 44) [] (cond (eqb c 10) [] (c ∷ cond b [] (cond (eqb d 10) [] (d ∷ first_field cs)))))) (ne_eqb d 44 (comma (omega arith)))
+        ∙ ap (λ (b : Bool). mark_in (cond (eqb c 44) [] (cond (eqb c 10) [] (c ∷ cond b [] (d ∷ first_field cs))))) (ne_eqb d 10 (feed (omega arith)))
+        ∙ longer (eqb c 44) (eqb c 10) c d (first_field cs)
+
+-- a line is judged by its letter and what it goes on with
+pub judged_line : (t : Sizes) (s : Progress) (text : List ℕ) (letter : ℕ) (next : Next) (r : Result Judged Fault) → Begun t s text letter (fields_in next) (after_in next)
+    → JudgesLine t s letter next r → Judges t s text r
+judged_line t s text letter next (Ok j) b h =
+    let e : judged t s (fields (first_line text)) ≡ Ok j.item = b.said ∙ h.item in
+    record { item = e; rest = h.rest ∙ sym (b.rest j.item e); allowed = judged_allowed t s (fields (first_line text)) j.item e }
+judged_line t s text letter next (Err f) b h = b.said ∙ h

@@ -1,7 +1,16 @@
 -- A text cut at its first comma or line feed.
-use Rattle.std.proofs.Common.{◌≡◌, ℕ, suc, ◌+◌, ◌<◌, ◌≤◌, min, Bool, true, false, cond, eqb, List, [], ◌∷◌, length, get_or, take, drop, sym, refl, ap, ◌∙◌, add-one, arith, eq-eqb, ne_eqb, eqb-true}
-use Rattle.std.proofs.lemmas.List.{drop_all}
-use Rattle.batch.specs.Parts.{onto, lines, fields, first_line, after_line, first_field, Split}
+use Rattle.std.proofs.Common.{◌≡◌, ℕ, suc, ◌+◌, ◌<◌, ◌≤◌, Bool, true, false, cond, ◌||◌, eqb, ltb, not, Option, Some, None, List, [], ◌∷◌, length, get_or, take, drop, sym, refl, ap, ◌∙◌, add-one, arith, eq-eqb, ne_eqb, eqb-true}
+use borrow.Author.Tests.{ltb-false}
+use Rattle.std.proofs.lemmas.List.Sums.{prefix_len-le-length}
+use Rattle.std.proofs.lemmas.List.{drop_all, drop-drop, get_or-drop, length-drop, nil_from_length}
+use Rattle.std.specs.Option.{unwrap_or}
+use Rattle.batch.specs.declared.cutting.Cut.{Cut}
+use Rattle.batch.specs.declared.cutting.Next.{Next}
+use Rattle.batch.specs.declared.cutting.Next.TheVariants.{Field}
+use Rattle.batch.specs.Cuts.{fields_in}
+use denote.Ref.{Bor}
+use Rattle.std.specs.List.{position_or_len}
+use Rattle.batch.specs.Parts.{onto, lines, fields, first_line, after_line, first_field}
 
 -- what comes after the first field's comma or line feed, and whether it was a comma
 
@@ -13,21 +22,27 @@ abbrev pub more_fields : List ℕ → Bool
 more_fields [] = false
 more_fields (c ∷ cs) = cond (eqb c 44) true (cond (eqb c 10) false (more_fields cs))
 
--- a comma stops a field and not its line, a line feed stops both
+-- the first field ends at the first of these bytes
 
-pub field_comma : (c : ℕ) (cs : List ℕ) → c ≡ 44 → length (first_field (c ∷ cs)) ≡ 0
-field_comma c cs e = ap (λ b. length (cond b [] (cond (eqb c 10) [] (c ∷ first_field cs)))) (eq-eqb c 44 e)
+abbrev pub stops : ℕ → Bool
+stops c = eqb c 44 || eqb c 10
 
-pub field_feed : (c : ℕ) (cs : List ℕ) → (c ≡ 44 → ⊥) → c ≡ 10 → length (first_field (c ∷ cs)) ≡ 0
-field_feed c cs n e =
-    ap (λ b. length (cond b [] (cond (eqb c 10) [] (c ∷ first_field cs)))) (ne_eqb c 44 n)
-    ∙ ap (λ b. length (cond b [] (c ∷ first_field cs))) (eq-eqb c 10 e)
+field_place : (s : List ℕ) → position_or_len stops s ≡ length (first_field s)
+field_place [] = refl
+field_place (c ∷ cs) =
+    let P : Bool → Bool → Type 0 = λ a b. cond (not (a || b)) (1 + position_or_len stops cs) 0 ≡ length (cond a [] (cond b [] (c ∷ first_field cs))) in
+    elim (eqb c 44) as (λ a. P a (eqb c 10)) [
+      | true ↦ refl
+      | false ↦ (elim (eqb c 10) as (λ b. P false b) [ true ↦ refl | false ↦ omega (arith, field_place cs) ])
+    ]
 
-pub field_other : (c : ℕ) (cs : List ℕ) → (c ≡ 44 → ⊥) → (c ≡ 10 → ⊥) → length (first_field (c ∷ cs)) ≡ length (first_field cs) + 1
-field_other c cs n e =
-    ap (λ b. length (cond b [] (cond (eqb c 10) [] (c ∷ first_field cs)))) (ne_eqb c 44 n)
-    ∙ ap (λ b. length (cond b [] (c ∷ first_field cs))) (ne_eqb c 10 e)
-    ∙ sym (add-one _)
+pub at_place : (s : List ℕ) (r : Option ℕ) → r ≡ cond (ltb (position_or_len stops s) (length s)) (Some (position_or_len stops s)) None
+    → unwrap_or r (length s) ≡ length (first_field s)
+at_place s r e = go (ltb (position_or_len stops s) (length s)) refl ∙ field_place s
+  where
+    go : (b : Bool) → ltb (position_or_len stops s) (length s) ≡ b → unwrap_or r (length s) ≡ position_or_len stops s
+    go true h = ap (λ x. unwrap_or x (length s)) (e ∙ ap (λ (b : Bool). cond b (Some (position_or_len stops s)) None) h)
+    go false h = ap (λ x. unwrap_or x (length s)) (e ∙ ap (λ (b : Bool). cond b (Some (position_or_len stops s)) None) h) ∙ omega (arith, ltb-false (position_or_len stops s) (length s) h, prefix_len-le-length (λ c. not (stops c)) s)
 
 -- the first field by its length
 
@@ -39,15 +54,6 @@ field_take (c ∷ cs) =
       | true ↦ refl
       | false ↦ (elim (eqb c 10) as (λ b. P false b) [ true ↦ refl | false ↦ ap (λ l. c ∷ l) (field_take cs) ])
     ]
-
-pub field_all : (s : List ℕ) → length s ≤ length (first_field s) → first_field s ≡ s
-field_all [] h = refl
-field_all (c ∷ cs) h =
-    let P : Bool → Bool → Type 0 = λ a b. suc (length cs) ≤ length (cond a [] (cond b [] (c ∷ first_field cs))) → cond a [] (cond b [] (c ∷ first_field cs)) ≡ c ∷ cs in
-    (elim (eqb c 44) as (λ a. P a (eqb c 10)) [
-      | true ↦ λ k. absurd (omega arith)
-      | false ↦ (elim (eqb c 10) as (λ b. P false b) [ true ↦ λ k. absurd (omega arith) | false ↦ λ k. ap (λ l. c ∷ l) (field_all cs (omega arith)) ])
-    ]) h
 
 pub after_drop : (s : List ℕ) → after_field s ≡ drop (length (first_field s) + 1) s
 after_drop [] = sym (drop_all 1 [] (omega arith))
@@ -110,30 +116,50 @@ cut_fields s field rest more e f g = let h = fields_more s in cc
 pub cut_after : (s rest : List ℕ) (more : Bool) → rest ≡ after_field s → more ≡ more_fields s → after_line s ≡ cond more (after_line rest) rest
 cut_after s rest more f g = let h = after_more s in cc
 
--- one byte and a comma
-pub mark_cut : (s : List ℕ) → 1 < length s → (get_or s 0 0 ≡ 44 → ⊥) → (get_or s 0 0 ≡ 10 → ⊥) → get_or s 1 0 ≡ 44
-    → (take 1 s ≡ first_field s) × (drop 2 s ≡ after_field s) × (true ≡ more_fields s)
-mark_cut [] h n m e = absurd (omega arith)
-mark_cut (c ∷ []) h n m e = absurd (omega arith)
-mark_cut (c ∷ d ∷ cs) h n m e = go (eqb c 44) (eqb c 10) (eqb d 44) (ne_eqb c 44 n) (ne_eqb c 10 m) (eq-eqb d 44 e)
-  where
-    go : (x y z : Bool) → x ≡ false → y ≡ false → z ≡ true
-        → (c ∷ [] ≡ cond x [] (cond y [] (c ∷ cond z [] (cond (eqb d 10) [] (d ∷ first_field cs)))))
-        × (cs ≡ cond x (d ∷ cs) (cond y (d ∷ cs) (cond z cs (cond (eqb d 10) cs (after_field cs)))))
-        × (true ≡ cond x true (cond y false (cond z true (cond (eqb d 10) false (more_fields cs)))))
-    go true y z i j k = absurd (let w : ◌≡◌ {A = ℕ} 0 1 = cc in omega arith)
-    go false true z i j k = absurd (let w : ◌≡◌ {A = ℕ} 0 1 = cc in omega arith)
-    go false false false i j k = absurd (let w : ◌≡◌ {A = ℕ} 0 1 = cc in omega arith)
-    go false false true i j k = (refl, refl, refl)
+after_all : (s : List ℕ) → length s ≤ length (first_field s) → after_field s ≡ []
+after_all s h = after_drop s ∙ drop_all (length (first_field s) + 1) s (omega arith)
 
--- a line P
-pub posting_line_lem : (s : List ℕ) → 1 < length s → get_or s 0 0 ≡ 80 → get_or s 1 0 ≡ 10 → (fields (first_line s) ≡ (80 ∷ []) ∷ []) × (drop 2 s ≡ after_line s)
-posting_line_lem [] h p q = absurd (omega arith)
-posting_line_lem (c ∷ []) h p q = absurd (omega arith)
-posting_line_lem (c ∷ d ∷ cs) h p q = (
-  ap (λ x. fields (first_line (x ∷ d ∷ cs))) p ∙ ap (λ x. fields (first_line (80 ∷ x ∷ cs))) q,
-  sym (ap (λ x. after_line (x ∷ d ∷ cs)) p ∙ ap (λ x. after_line (80 ∷ x ∷ cs)) q),
-)
+field_there : (s : List ℕ) (n : ℕ) → n ≡ length (first_field s) → take n s ≡ first_field s
+field_there s n e = ap (λ k. take k s) e ∙ field_take s
+
+after_there : (s rest tail : List ℕ) (n : ℕ) → n ≡ length (first_field s) → rest ≡ drop n s → tail ≡ drop 1 rest → tail ≡ after_field s
+after_there s rest tail n e r t = t ∙ ap (drop 1) r ∙ drop-drop 1 n s ∙ ap (λ k. drop k s) (omega (arith, e)) ∙ sym (after_drop s)
+
+more_there : (s rest : List ℕ) (n : ℕ) → n ≡ length (first_field s) → rest ≡ drop n s → 0 < length rest → more_fields s ≡ eqb (get_or rest 0 0) 44
+more_there s rest n e r l =
+    let h : n < length s = omega (arith, ap length r, length-drop n s) in
+    let at : get_or rest 0 0 ≡ get_or s n 0 = ap (λ x. get_or x 0 0) r ∙ get_or-drop n s 0 0 ∙ ap (λ k. get_or s k 0) (omega arith) in
+    more_at s (omega (arith, e)) ∙ ap (λ k. eqb (get_or s k 0) 44) (sym e) ∙ ap (λ x. eqb x 44) (sym at)
+
+-- a text cut at the end of its first field, by what stands there
+
+pub cut_more : (s field rest tail : List ℕ) (n : ℕ) → n ≡ length (first_field s) → field ≡ take n s → rest ≡ drop n s → 0 < length rest → get_or rest 0 0 ≡ 44 → tail ≡ drop 1 rest
+    → (fields (first_line s) ≡ field ∷ fields (first_line tail)) × (after_line s ≡ after_line tail)
+cut_more s field rest tail n e f r l c t =
+    let more : true ≡ more_fields s = sym (eq-eqb (get_or rest 0 0) 44 c) ∙ sym (more_there s rest n e r l) in
+    (cut_fields s field tail true (f ∙ field_there s n e) (after_there s rest tail n e r t) more, cut_after s tail true (after_there s rest tail n e r t) more)
+
+pub cut_line : (s field rest tail : List ℕ) (n : ℕ) → n ≡ length (first_field s) → field ≡ take n s → rest ≡ drop n s → 0 < length rest → (get_or rest 0 0 ≡ 44 → ⊥) → tail ≡ drop 1 rest
+    → (fields (first_line s) ≡ field ∷ []) × (after_line s ≡ tail)
+cut_line s field rest tail n e f r l c t =
+    let more : false ≡ more_fields s = sym (ne_eqb (get_or rest 0 0) 44 c) ∙ sym (more_there s rest n e r l) in
+    (cut_fields s field tail false (f ∙ field_there s n e) (after_there s rest tail n e r t) more, cut_after s tail false (after_there s rest tail n e r t) more)
+
+pub cut_end : (s field rest : List ℕ) (n : ℕ) → n ≡ length (first_field s) → field ≡ take n s → rest ≡ drop n s → length rest ≡ 0 → (fields (first_line s) ≡ field ∷ []) × (after_line s ≡ rest)
+cut_end s field rest n e f r z =
+    let h : length s ≤ length (first_field s) = omega (arith, ap length r, length-drop n s) in
+    let more : false ≡ more_fields s = sym (more_none s h) in
+    let after : rest ≡ after_field s = nil_from_length rest z ∙ sym (after_all s h) in
+    (cut_fields s field rest false (f ∙ field_there s n e) after more, cut_after s rest false after more)
+
+-- a line with more than three fields after its mark
+pub four_fields : (next : Next) (a b c : Cut) (t u v w : Bor (List ℕ)) → next ≡ Field t → a.next ≡ Field u → b.next ≡ Field v → c.next ≡ Field w
+    → fields (first_line t.now) ≡ a.field.now ∷ fields_in a.next → fields (first_line u.now) ≡ b.field.now ∷ fields_in b.next → fields (first_line v.now) ≡ c.field.now ∷ fields_in c.next
+    → 4 ≤ length (fields_in next)
+four_fields next a b c t u v w e f g h i j k =
+    let m : fields_in next ≡ a.field.now ∷ b.field.now ∷ c.field.now ∷ fields (first_line w.now) =
+    ap fields_in e ∙ i ∙ ap (λ l. a.field.now ∷ l) (ap fields_in f ∙ j ∙ ap (λ l. b.field.now ∷ l) (ap fields_in g ∙ k ∙ ap (λ l. c.field.now ∷ l) (ap fields_in h))) in
+    omega (arith, ap length m, ap length (fields_more w.now))
 
 -- the lines of a text, one by one
 pub lines_more : (s : List ℕ) → 0 < length s → lines s ≡ first_line s ∷ lines (after_line s)
@@ -162,38 +188,3 @@ after_less (c ∷ d ∷ cs) h = go (eqb c 10) (after_less (d ∷ cs) (omega arit
     go : (b : Bool) → length (after_line (d ∷ cs)) < length (d ∷ cs) → length (cond b (d ∷ cs) (after_line (d ∷ cs))) < suc (length (d ∷ cs))
     go true k = omega arith
     go false k = omega arith
-
--- a line from its fields
-pub split_as : (s : List ℕ) (fs : List (List ℕ)) (n : ℕ) (rest : List ℕ) → fields (first_line s) ≡ fs → n ≡ min 5 (length fs) → (length fs ≤ 4 → rest ≡ after_line s)
-    → Split s n (get_or fs 0 []) (get_or fs 1 []) (get_or fs 2 []) (get_or fs 3 []) rest
-split_as s fs n rest e k r = record {
-  count = k ∙ ap (λ l. min 5 (length l)) (sym e);
-  mark = ap (λ l. get_or l 0 []) (sym e);
-  first = ap (λ l. get_or l 1 []) (sym e);
-  second = ap (λ l. get_or l 2 []) (sym e);
-  third = ap (λ l. get_or l 3 []) (sym e);
-  rest = λ h. r (omega (arith, ap length e));
-}
-
-pub after_all : (s : List ℕ) → length s ≤ length (first_field s) → after_field s ≡ []
-after_all s h = after_drop s ∙ drop_all (length (first_field s) + 1) s (omega arith)
-
--- a line with more than four fields
-
-pub next_field : (s field rest : List ℕ) (more : Bool) → fields (first_line s) ≡ field ∷ cond more (fields (first_line rest)) [] → more ≡ true
-    → fields (first_line s) ≡ field ∷ fields (first_line rest)
-next_field s field rest more e t = e ∙ ap (λ b. field ∷ cond b (fields (first_line rest)) []) t
-
-pub some_field : (s : List ℕ) → 0 < length (fields (first_line s))
-some_field s = omega (arith, ap length (fields_more s))
-
-pub split_many : (s r : List ℕ) (a b c d : List ℕ) → fields (first_line s) ≡ a ∷ b ∷ c ∷ d ∷ fields (first_line r) → Split s 5 a b c d r
-split_many s r a b c d e = split_as s (a ∷ b ∷ c ∷ d ∷ fields (first_line r)) 5 r e (omega (arith, some_field r)) (λ h. absurd (omega (arith, some_field r)))
-
-pub split_five : (s ra rb rc rd a b c d : List ℕ) (ma mb mc md : Bool)
-    → fields (first_line s) ≡ a ∷ cond ma (fields (first_line ra)) [] → ma ≡ true → fields (first_line ra) ≡ b ∷ cond mb (fields (first_line rb)) [] → mb ≡ true
-    → fields (first_line rb) ≡ c ∷ cond mc (fields (first_line rc)) [] → mc ≡ true → fields (first_line rc) ≡ d ∷ cond md (fields (first_line rd)) [] → md ≡ true
-    → Split s 5 a b c d rd
-split_five s ra rb rc rd a b c d ma mb mc md e1 t1 e2 t2 e3 t3 e4 t4 =
-    split_many s rd a b c d
-    (next_field s a ra ma e1 t1 ∙ ap (λ l. a ∷ l) (next_field ra b rb mb e2 t2 ∙ ap (λ l. b ∷ l) (next_field rb c rc mc e3 t3 ∙ ap (λ l. c ∷ l) (next_field rc d rd md e4 t4))))

@@ -10,6 +10,9 @@ use Rattle.batch.specs.declared.items.BatchRefusal.TheVariants.{Size, End}
 use Rattle.batch.specs.declared.progress.Progress.{Progress}
 use Rattle.batch.specs.declared.progress.Sizes.{Sizes}
 use Rattle.batch.specs.declared.items.Fault.{Fault}
+use Rattle.batch.specs.declared.items.Fault.TheVariants.{Form}
+use Rattle.batch.specs.declared.judging.Judged.{Judged}
+use Rattle.batch.specs.Judging.{Accepts}
 use Rattle.batch.specs.Parts.{lines, fields, first_line}
 use Rattle.batch.specs.Plans.{planned}
 use Rattle.batch.specs.Progress.{sofar, houses_in, workers_in}
@@ -136,3 +139,13 @@ grown_length xs cleared after e g = ap length (g.list ∙ ap (λ l. l ++ xs) e)
 
 pub grown_same : {X : Type 0} (xs ys : List X) (a b : Roll X) → xs ≡ ys → Grown xs a b → Grown ys a b
 grown_same xs ys a b e g = subst (λ l. Grown l a b) e g
+
+-- a text with nothing left has no mark
+pub some_left : (t : Sizes) (k : Progress) (text : List ℕ) (j : Judged) → Accepts t k text j → 0 < length text
+some_left t k [] j a = absurd (let x : Err Form ≡ Ok j.item = a.item in let z : ◌≡◌ {A = ℕ} 0 1 = cc in omega arith)
+some_left t k (c ∷ cs) j a = omega arith
+
+pub nothing_left : (t : Sizes) (k : Progress) (past : List Item) (text rest : List ℕ) (f : Fault) → answered (batch t text) ≡ Ok tt
+    → said t past (lines rest) ≡ said t [] (lines text) → k ≡ sofar past → judged t k (fields (first_line rest)) ≡ Err f → length rest ≡ 0
+nothing_left t k past text [] f h w e j = refl
+nothing_left t k past text (c ∷ cs) f h w e j = absurd (never_refused t k past text (c ∷ cs) f h w e (omega arith) j)

@@ -1,7 +1,9 @@
 -- A text line by line.
-use Rattle.std.proofs.Common.{◌≡◌, ℕ, ◌+◌, ◌-◌, ◌<◌, ◌≤◌, Bool, true, false, cond, ◌||◌, eqb, ltb, List, [], ◌∷◌, ◌++◌, length, get_or, Ok, Err, Result, sym, refl, ap, ◌∙◌, arith, le-ltb, lt-ltb, eq-eqb, ne_eqb}
-use Rattle.std.proofs.lemmas.List.{length-append, append-nil, nil_from_length}
-use Rattle.std.proofs.lemmas.Bool.{and_from, and_left, and_right}
+use Rattle.std.proofs.Common.{◌≡◌, ℕ, ◌+◌, ◌-◌, ◌<◌, ◌≤◌, Bool, true, false, cond, ◌||◌, ◌&&◌, drop, eqb-true, eqb, ltb, List, [], ◌∷◌, ◌++◌, length, get_or, Ok, Err, Result, sym, refl, ap, ◌∙◌, arith, le-ltb, lt-ltb, eq-eqb, ne_eqb}
+use Rattle.std.specs.List.{ends_with}
+use Rattle.std.specs.Cmp.Lexicographic.{pointwise}
+use Rattle.std.proofs.lemmas.List.{drop_more, drop_all, length-append, append-nil, nil_from_length}
+use Rattle.std.proofs.lemmas.Bool.{and_parts, and_from, and_left, and_right}
 use Rattle.batch.specs.declared.items.Item.{Item}
 use Rattle.batch.specs.declared.items.Item.TheVariants.{Begins, Opened, Kept, Posts, Orders, Runs}
 use Rattle.batch.specs.declared.items.Fault.{Fault}
@@ -11,7 +13,9 @@ use Rattle.batch.specs.declared.progress.Progress.{Progress}
 use Rattle.batch.specs.declared.progress.Sizes.{Sizes}
 use Rattle.batch.specs.Parts.{lines, fields, first_line, after_line}
 use Rattle.batch.specs.Progress.{sofar, entered}
-use Rattle.batch.specs.Reading.{said, closes, ended, batch_of_any_length, batch}
+use Rattle.batch.specs.Reading.{said, closes, ended, batch_of_any_length, batch, answered}
+use Rattle.batch.specs.declared.judging.Judged.{Judged}
+use Rattle.batch.specs.Judging.{Judges}
 use Rattle.batch.specs.Refusals.{refusal_at}
 use Rattle.batch.specs.Rules.{judged}
 use Rattle.batch.specs.Tables.{seen_in, postings_in, orders_in, runs_in, posting_of}
@@ -121,3 +125,32 @@ closes_missing text past k e h =
 pub closes_well : (text : List ℕ) (past : List Item) (k : Progress) → k ≡ sofar past → get_or text (length text - 1) 0 ≡ 10 → k.seen ≡ k.houses → closes text past ≡ true
 closes_well text past k e f h =
     and_from _ _ (eq-eqb (get_or text (length text - 1) 0) 10 f) (eq-eqb (sofar past).seen (sofar past).houses (ap (λ x. x.seen) (sym e) ∙ h ∙ ap (λ x. x.houses) e))
+
+-- a text that ends with a line feed has it as its last byte
+ends_last : (text : List ℕ) → 0 < length text → drop (length text - 1) text ≡ get_or text (length text - 1) 0 ∷ []
+ends_last text h =
+    drop_more text (length text - 1) 0 (omega arith)
+    ∙ ap (λ l. get_or text (length text - 1) 0 ∷ l) (drop_all (length text - 1 + 1) text (omega arith))
+
+pub ends_feed : (text : List ℕ) (b : Bool) → 0 < length text → b ≡ ends_with eqb text (10 ∷ []) → b ≡ true → get_or text (length text - 1) 0 ≡ 10
+ends_feed text b h e t =
+    let f : (eqb 10 (get_or text (length text - 1) 0) && true) ≡ true = ap (λ l. pointwise eqb (10 ∷ []) l) (sym (ends_last text h)) ∙ sym e ∙ t in
+    sym (eqb-true 10 _ (and_parts _ _ f).0)
+
+pub ends_open : (text : List ℕ) (b : Bool) → 0 < length text → b ≡ ends_with eqb text (10 ∷ []) → b ≡ false → get_or text (length text - 1) 0 ≡ 10 → ⊥
+ends_open text b h e t k =
+    let f : (eqb 10 (get_or text (length text - 1) 0) && true) ≡ false = ap (λ l. pointwise eqb (10 ∷ []) l) (sym (ends_last text h)) ∙ sym e ∙ t in
+    let g : (eqb 10 (get_or text (length text - 1) 0) && true) ≡ true = ap (λ x. eqb 10 x && true) k in
+    let z : true ≡ false = sym g ∙ f in
+    let n : ◌≡◌ {A = ℕ} 0 1 = cc in
+    omega arith
+
+-- the answer to a line that is refused
+pub told_refused : (t : Sizes) (k : Progress) (past : List Item) (text rest : List ℕ) (line : ℕ) (r : Result Judged Fault) (m : Result Judged BatchRefusal) (e : BatchRefusal)
+    → 0 < length text → length text ≤ 32768 → said t past (lines rest) ≡ said t [] (lines text) → k ≡ sofar past → 0 < length rest → line ≡ length past + 1 → Judges t k rest r
+    → ((j : Judged) → r ≡ Ok j → m ≡ Ok j) → ((f : Fault) → r ≡ Err f → m ≡ Err (refusal_at line f)) → m ≡ Err e
+    → ◌≡◌ {A = Result (Unit {0}) BatchRefusal} (Err e) (answered (batch t text))
+told_refused t k past text rest line (Ok j) m e a b w h n l d ok err q = absurd (let x : Ok j ≡ Err e = sym (ok j refl) ∙ q in let z : ◌≡◌ {A = ℕ} 0 1 = cc in omega arith)
+told_refused t k past text rest line (Err f) m e a b w h n l d ok err q =
+    let same : e ≡ refusal_at line f = let x : ◌≡◌ {A = Result Judged BatchRefusal} (Err e) (Err (refusal_at line f)) = sym q ∙ err f refl in cc in
+    ap Err (same ∙ ap (λ x. refusal_at x f) l) ∙ sym (ap answered (batch_refused t k past text rest f a b w h n d))

@@ -1,4 +1,5 @@
 pub mod Parts
+pub mod Cuts
 pub mod Fields
 pub mod Marks
 pub mod Rules

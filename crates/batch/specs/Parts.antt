@@ -1,5 +1,5 @@
 -- A text is lines, and a line is fields.
-use Rattle.std.specs.Prelude.{◌≡◌, ℕ, ◌≤◌, min, cond, List, [], ◌∷◌, length, ◌==◌, slice_index_or}
+use Rattle.std.specs.Prelude.{ℕ, cond, List, [], ◌∷◌, ◌==◌}
 
 -- the byte c before the first part
 abbrev pub onto : ℕ → List (List ℕ) → List (List ℕ)
@@ -33,12 +33,3 @@ after_line (c ∷ cs) = cond (c == 10) cs (after_line cs)
 abbrev pub first_field : List ℕ → List ℕ
 first_field [] = []
 first_field (c ∷ cs) = cond (c == 44) [] (cond (c == 10) [] (c ∷ first_field cs))
-
--- the first line of a text, cut into its first four fields, with the count of all, where more than four count as five
-pub record Split (text : List ℕ) (n : ℕ) (m a b c after : List ℕ) : Type 0 where
-  pub count : n ≡ min 5 (length (fields (first_line text)))
-  pub mark : m ≡ slice_index_or (fields (first_line text)) 0 []
-  pub first : a ≡ slice_index_or (fields (first_line text)) 1 []
-  pub second : b ≡ slice_index_or (fields (first_line text)) 2 []
-  pub third : c ≡ slice_index_or (fields (first_line text)) 3 []
-  pub rest : length (fields (first_line text)) ≤ 4 → after ≡ after_line text

@@ -33,6 +33,10 @@ opens s a b =
     ask 2 (natural s.account 63 a) (λ account. ask 3 (nonzero (cents b)) (λ v.
     Ok (Opened record { account = account; cents = v })))
 
+-- a worker of the first line's
+abbrev pub worker_in : Progress → List ℕ → Option ℕ
+worker_in s a = natural 0 (s.workers - 1) a
+
 -- H,house,keeper with the houses in order
 abbrev pub keeps : Progress → List ℕ → List ℕ → Result Item Fault
 keeps s a b =

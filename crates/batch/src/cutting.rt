@@ -1,27 +1,39 @@
 // A text cut into lines and fields, each byte looked at once.
-ghost use Rattle.std.specs.Prelude.{◌≡◌, ℕ, ◌≤◌, [], ◌∷◌, length, IfSome, if◌then◌else◌};
-ghost use Rattle.batch.specs.Parts.{fields, first_line, after_line, first_field, Split};
+ghost use Rattle.std.specs.Prelude.{◌≡◌, ◌≤◌, ◌∷◌, length};
+ghost use Rattle.batch.specs.Parts.{fields, first_line, after_line, first_field};
+ghost use Rattle.batch.specs.Cuts.{fields_in, after_in, field_total, Lists};
 
-// The first line of a text, cut into its fields: the first four, those that it has not being empty,
-// and how many there are, where more than four count as five.
-#[derive(Clone, Copy)]
-pub struct Line<'a> {
-    pub count: usize,
-    pub mark: &'a [u8],
-    pub first: &'a [u8],
-    pub second: &'a [u8],
-    pub third: &'a [u8],
-    // What comes after the line, if it has at most four fields.
-    pub rest: &'a [u8],
+// What a line goes on with, after its mark or one of its fields.
+#[derive(Clone, Copy, Debug)]
+pub enum Next<'a> {
+    // A comma came: the text from the next field on.
+    Field(&'a [u8]),
+    // The line ended: the text after it.
+    Line(&'a [u8]),
 }
 
 // A text cut at the first comma or line feed.
-#[derive(Clone, Copy)]
+#[derive(Clone, Copy, Debug)]
 struct Cut<'a> {
     field: &'a [u8],
-    rest: &'a [u8],
-    // It was cut at a comma.
-    more: bool,
+    next: Next<'a>,
+}
+
+// The fields after the mark, where no line of a batch has more than three.
+#[derive(Clone, Copy, Debug)]
+pub enum Fields<'a> {
+    Zero,
+    One(&'a [u8]),
+    Two(&'a [u8], &'a [u8]),
+    Three(&'a [u8], &'a [u8], &'a [u8]),
+    More,
+}
+
+// The fields after the mark, and what comes after the line, if it has at most three of them.
+#[derive(Clone, Copy, Debug)]
+pub struct Line<'a> {
+    pub fields: Fields<'a>,
+    pub rest: &'a [u8],
 }
 
 // How many bytes stand before the first comma or line feed.
@@ -29,130 +41,83 @@ fn stop(text: &[u8]) -> usize
     ensures front { result ≡ length (first_field text.now) }
     ensures within { result ≤ length text.now }
 {
-    for (i, c) in text.iter().enumerate() {
-        if *c == b',' {
-            return i;
-        }
-        if *c == b'\n' {
-            return i;
-        }
-    }
-    text.len()
+    text.iter()
+        .position(|c| *c == b',' || *c == b'\n')
+        .unwrap_or(text.len())
 }
 
 fn first_field(text: &[u8]) -> Cut<'_>
-    ensures fields { fields (first_line text.now) ≡ result.field.now ∷ (if result.more then fields (first_line result.rest.now) else []) }
-    ensures after { after_line text.now ≡ (if result.more then after_line result.rest.now else result.rest.now) }
+    ensures fields { fields (first_line text.now) ≡ result.field.now ∷ fields_in result.next }
+    ensures after { after_line text.now ≡ after_in result.next }
 {
-    let n = stop(text);
-    if n < text.len() {
-        Cut {
-            field: &text[0..n],
-            rest: &text[n + 1..],
-            more: text[n] == b',',
+    let (field, rest) = text.split_at(stop(text));
+    match rest {
+        [b',', rest @ ..] => Cut {
+            field,
+            next: Next::Field(rest),
+        },
+        [_, rest @ ..] => Cut {
+            field,
+            next: Next::Line(rest),
+        },
+        [] => Cut {
+            field,
+            next: Next::Line(rest),
+        },
+    }
+}
+
+// The rest of a line.
+pub(crate) fn line_from(next: Next<'_>) -> Line<'_>
+    ensures fields { Lists result.fields (fields_in next.entry) }
+    ensures rest { length (fields_in next.entry) ≤ 3 → result.rest.now ≡ after_in next.entry }
+{
+    let text = match next {
+        Next::Line(rest) => return Line {
+            fields: Fields::Zero,
+            rest,
+        },
+        Next::Field(text) => text,
+    };
+    let first = first_field(text);
+    let text = match first.next {
+        Next::Line(rest) => return Line {
+            fields: Fields::One(first.field),
+            rest,
+        },
+        Next::Field(text) => text,
+    };
+    let second = first_field(text);
+    let text = match second.next {
+        Next::Line(rest) => return Line {
+            fields: Fields::Two(first.field, second.field),
+            rest,
+        },
+        Next::Field(text) => text,
+    };
+    let third = first_field(text);
+    match third.next {
+        Next::Line(rest) => Line {
+            fields: Fields::Three(first.field, second.field, third.field),
+            rest,
+        },
+        Next::Field(rest) => Line {
+            fields: Fields::More,
+            rest,
+        },
+    }
+}
+
+impl Fields<'_> {
+    pub(crate) fn count(self) -> usize
+        ensures { result ≡ field_total self.entry }
+    {
+        match self {
+            Fields::Zero => 0,
+            Fields::One(_) => 1,
+            Fields::Two(_, _) => 2,
+            Fields::Three(_, _, _) => 3,
+            Fields::More => 4,
         }
-    } else {
-        Cut {
-            field: text,
-            rest: &text[n..],
-            more: false,
-        }
-    }
-}
-
-// The same, but a single byte before a comma, as most marks are, is seen at once.
-fn first_mark(text: &[u8]) -> Cut<'_>
-    ensures fields { fields (first_line text.now) ≡ result.field.now ∷ (if result.more then fields (first_line result.rest.now) else []) }
-    ensures after { after_line text.now ≡ (if result.more then after_line result.rest.now else result.rest.now) }
-{
-    if text.len() < 2 {
-        return first_field(text);
-    }
-    if text[1] != b',' {
-        return first_field(text);
-    }
-    if text[0] == b',' {
-        return first_field(text);
-    }
-    if text[0] == b'\n' {
-        return first_field(text);
-    }
-    Cut {
-        field: &text[0..1],
-        rest: &text[2..],
-        more: true,
-    }
-}
-
-// What comes after a line `P`, if the text begins with one.
-pub(crate) fn after_posting(text: &[u8]) -> Option<&[u8]>
-    ensures { IfSome result (λ rest. (fields (first_line text.now) ≡ (80 ∷ []) ∷ []) × (rest.now ≡ after_line text.now)) }
-{
-    if text.len() < 2 {
-        return None;
-    }
-    if text[0] != b'P' {
-        return None;
-    }
-    if text[1] != b'\n' {
-        return None;
-    }
-    Some(&text[2..])
-}
-
-pub(crate) fn first_line(text: &[u8]) -> Line<'_>
-    ensures { Split text.now result.count result.mark.now result.first.now result.second.now result.third.now result.rest.now }
-{
-    let a = first_mark(text);
-    if !a.more {
-        return Line {
-            count: 1,
-            mark: a.field,
-            first: &[],
-            second: &[],
-            third: &[],
-            rest: a.rest,
-        };
-    }
-    let b = first_field(a.rest);
-    if !b.more {
-        return Line {
-            count: 2,
-            mark: a.field,
-            first: b.field,
-            second: &[],
-            third: &[],
-            rest: b.rest,
-        };
-    }
-    let c = first_field(b.rest);
-    if !c.more {
-        return Line {
-            count: 3,
-            mark: a.field,
-            first: b.field,
-            second: c.field,
-            third: &[],
-            rest: c.rest,
-        };
-    }
-    let d = first_field(c.rest);
-    if !d.more {
-        return Line {
-            count: 4,
-            mark: a.field,
-            first: b.field,
-            second: c.field,
-            third: d.field,
-            rest: d.rest,
-        };
-    }
-    Line {
-        count: 5,
-        mark: a.field,
-        first: b.field,
-        second: c.field,
-        third: d.field,
-        rest: d.rest,
     }
 }

@@ -9,7 +9,7 @@ ghost use Rattle.batch.specs.Texts.{batch_text};
 ghost use Rattle.batch.specs.Tables.{Grown, Tabled, posting_of, order_of, run_of, postings_in, orders_in, runs_in, sizes_of};
 
 use crate::items::{BatchRefusal, Item};
-use crate::judging::judge;
+use crate::judging::Reader;
 use crate::plan::Plan;
 use crate::progress::{Progress, Sizes};
 use crate::reading::check;
@@ -106,18 +106,12 @@ fn fill(
     postings.clear();
     lines.clear();
     runs.clear();
-    let mut known = Progress::start();
-    let mut rest = text;
-    while !rest.is_empty() {
-        match judge(&sizes, &known, rest) {
-            Err(_) => unreachable(),
-            Ok(judged) => {
-                plan.note(&known, judged.item);
-                put(sizes, &known, judged.item, postings, lines, runs);
-                known.enter(judged.item, sizes);
-                rest = judged.after();
-            }
-        }
+    let mut reader = Reader::new(sizes, text);
+    // A text with nothing left has no mark, so that it is no line.
+    while let Ok(judged) = reader.judge() {
+        plan.note(&reader.known, judged.item);
+        put(sizes, &reader.known, judged.item, postings, lines, runs);
+        reader.enter(judged);
     }
 }
 
@@ -142,9 +136,7 @@ pub fn read_batch(
         orders: lines.capacity(),
         runs: runs.capacity(),
     };
-    let answer = check(sizes, text);
-    if let Ok(()) = answer {
-        fill(sizes, text, plan, postings, lines, runs);
-    }
-    answer
+    check(sizes, text)?;
+    fill(sizes, text, plan, postings, lines, runs);
+    Ok(())
 }

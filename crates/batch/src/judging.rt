@@ -1,30 +1,30 @@
 // The tests of one line.
-ghost use Rattle.std.specs.Prelude.{◌≡◌, [], ◌∷◌, Ok};
-ghost use Rattle.batch.specs.Marks.{letter_mark, mark_in, field_count, stands as stands_in};
-ghost use Rattle.batch.specs.Rules.{account_in, begins as begins_in, opens as opens_in, keeps as keeps_in, order_in, orders as orders_in, runs as runs_in, said_by, room_for, tested as tested_in, seated as seated_in, judged as judged_in};
-ghost use Rattle.batch.specs.Judging.{Judges};
+ghost use Rattle.std.specs.Prelude.{◌≡◌, ◌+◌, [], ◌∷◌, Ok};
+ghost use Rattle.batch.specs.Marks.{letter_mark, field_count, stands as stands_in};
+ghost use Rattle.batch.specs.Progress.{start, entered};
+ghost use Rattle.batch.specs.Rules.{account_in, begins as begins_in, opens as opens_in, keeps as keeps_in, worker_in, order_in, orders as orders_in, runs as runs_in, said_by as said_in, room_for, tested as tested_in, seated as seated_in};
+ghost use Rattle.batch.specs.Cuts.{field_total, first_in, second_in, third_in};
+ghost use Rattle.batch.specs.Judging.{Judges, JudgesLine, Accepts};
 
-use crate::cutting::{Line, after_posting, first_line};
+use crate::cutting::{Fields, Next, line_from};
 use crate::items::{Fault, Head, Item, Kind, Mark, Opens};
 use crate::numbers::{cents, natural};
 use crate::progress::{Progress, Sizes, Stage};
 use crate::records::{MOST_HOUSES, MOST_LINES, MOST_POSTINGS, OrderLine, Run};
 
 // What the first line of a text says, and the text after it.
-#[derive(Clone, Copy)]
+#[derive(Clone, Copy, Debug)]
 pub struct Judged<'a> {
     pub item: Item,
     pub rest: &'a [u8],
 }
 
-impl<'a> Judged<'a> {
-    // The text after the line. It is sliced anew, so that its address and its length are read one by one, each as it was stored:
-    // a copy of both in one go would wait for the two stores, on every line.
-    pub(crate) fn after(&self) -> &'a [u8]
-        ensures { result.now ≡ self.now.rest.now }
-    {
-        &self.rest[0..]
-    }
+// A reader between two lines: what it knows of the lines before, and the text that is left.
+#[derive(Clone, Copy, Debug)]
+pub struct Reader<'a> {
+    pub sizes: Sizes,
+    pub known: Progress,
+    pub rest: &'a [u8],
 }
 
 fn letter_mark(letter: char) -> Option<Mark>
@@ -46,76 +46,53 @@ fn letter_mark(letter: char) -> Option<Mark>
     }
 }
 
-fn mark_in(field: &[u8]) -> Option<Mark>
-    ensures { result ≡ mark_in field.now }
-{
-    if field.len() == 1 {
-        letter_mark(field[0] as char)
-    } else {
-        None
+impl Mark {
+    // How many fields its lines have, the mark included.
+    fn field_count(self) -> usize
+        ensures { result ≡ field_count self }
+    {
+        match self {
+            Mark::Begin => 4,
+            Mark::Opening | Mark::House | Mark::Run => 3,
+            Mark::Order(_) => 2,
+            Mark::Posting => 1,
+        }
     }
 }
 
-fn field_count(mark: Mark) -> usize
-    ensures { result ≡ field_count mark }
+fn account_in(field: &[u8]) -> Option<u8>
+    ensures { result ≡ account_in field.now }
 {
-    match mark {
-        Mark::Begin => 4,
-        Mark::Opening | Mark::House | Mark::Run => 3,
-        Mark::Order(_) => 2,
-        Mark::Posting => 1,
-    }
+    natural(field, 0, 63).map(|account| account as u8)
 }
 
-fn stands(known: &Progress, mark: Mark) -> bool
-    ensures { result ≡ stands_in known.now mark }
+fn order_in(kind: Kind, field: &[u8]) -> Option<OrderLine>
+    ensures { result ≡ order_in kind field.now }
 {
-    match (mark, known.stage) {
-        (Mark::Begin, Stage::Start) => true,
-        (Mark::Opening, Stage::Heading) => true,
-        (Mark::House, Stage::Heading | Stage::Housing | Stage::Drafting) => true,
-        (Mark::Posting, Stage::Housing | Stage::Drafting) => known.here < MOST_POSTINGS,
-        (Mark::Order(_), Stage::Drafting) => known.lines < MOST_LINES,
-        (Mark::Run, Stage::Housing | Stage::Drafting | Stage::Running) => true,
-        _ => false,
-    }
+    Some(match kind {
+        Kind::Take => OrderLine::Take(account_in(field)?),
+        Kind::Join => OrderLine::Join(account_in(field)?),
+        Kind::Set => OrderLine::Set(cents(field)?),
+        Kind::Raise => OrderLine::Raise(cents(field)?),
+        Kind::Need => OrderLine::Need(cents(field)?),
+        Kind::Write => OrderLine::Write(account_in(field)?),
+    })
 }
 
-// Is there room in the table that it would go to?
-fn has_room(sizes: &Sizes, known: &Progress, item: Item) -> bool
-    ensures { result ≡ room_for sizes.now known.now item }
+fn orders(kind: Kind, field: &[u8]) -> Result<Item, Fault>
+    ensures { result ≡ orders_in kind field.now }
 {
-    match item {
-        Item::Posts => known.postings < sizes.postings,
-        Item::Orders(_) => known.orders < sizes.orders,
-        Item::Runs(_) => known.runs < sizes.runs,
-        _ => true,
-    }
-}
-
-// An item that has room, or else the fault.
-fn seated(sizes: &Sizes, known: &Progress, item: Item) -> Result<Item, Fault>
-    ensures { result ≡ seated_in sizes.now known.now (Ok item) }
-{
-    if has_room(sizes, known, item) {
-        Ok(item)
-    } else {
-        Err(Fault::Room)
-    }
+    order_in(kind, field)
+        .map(Item::Orders)
+        .ok_or(Fault::Field(2))
 }
 
 fn begins(houses: &[u8], workers: &[u8], patience: &[u8]) -> Result<Item, Fault>
     ensures { result ≡ begins_in houses.now workers.now patience.now }
 {
-    let Some(houses) = natural(houses, 1, MOST_HOUSES as u64) else {
-        return Err(Fault::Field(2));
-    };
-    let Some(workers) = natural(workers, 1, 8) else {
-        return Err(Fault::Field(3));
-    };
-    let Some(patience) = natural(patience, 1, 1000) else {
-        return Err(Fault::Field(4));
-    };
+    let houses = natural(houses, 1, MOST_HOUSES as u64).ok_or(Fault::Field(2))?;
+    let workers = natural(workers, 1, 8).ok_or(Fault::Field(3))?;
+    let patience = natural(patience, 1, 1000).ok_or(Fault::Field(4))?;
     Ok(Item::Begins(Head {
         houses: houses as u8,
         workers: workers as u8,
@@ -123,148 +100,170 @@ fn begins(houses: &[u8], workers: &[u8], patience: &[u8]) -> Result<Item, Fault>
     }))
 }
 
-fn opens(known: &Progress, account: &[u8], value: &[u8]) -> Result<Item, Fault>
-    ensures { result ≡ opens_in known.now account.now value.now }
-{
-    let Some(account) = natural(account, known.account as u64, 63) else {
-        return Err(Fault::Field(2));
-    };
-    match cents(value) {
-        Some(v) if v != 0 => Ok(Item::Opened(Opens {
+impl<'a> Reader<'a> {
+    pub(crate) fn new(sizes: Sizes, text: &'a [u8]) -> Self
+        ensures sizes { result.sizes ≡ sizes }
+        ensures known { result.known ≡ start }
+        ensures rest { result.rest.now ≡ text.now }
+    {
+        Reader {
+            sizes,
+            known: Progress::start(),
+            rest: text,
+        }
+    }
+
+    fn stands(&self, mark: Mark) -> bool
+        ensures { result ≡ stands_in self.now.known mark }
+    {
+        match (mark, self.known.stage) {
+            (Mark::Begin, Stage::Start) => true,
+            (Mark::Opening, Stage::Heading) => true,
+            (Mark::House, Stage::Heading | Stage::Housing | Stage::Drafting) => true,
+            (Mark::Posting, Stage::Housing | Stage::Drafting) => self.known.here < MOST_POSTINGS,
+            (Mark::Order(_), Stage::Drafting) => self.known.lines < MOST_LINES,
+            (Mark::Run, Stage::Housing | Stage::Drafting | Stage::Running) => true,
+            _ => false,
+        }
+    }
+
+    // Is there room in the table that it would go to?
+    fn has_room(&self, item: Item) -> bool
+        ensures { result ≡ room_for self.now.sizes self.now.known item }
+    {
+        match item {
+            Item::Posts => self.known.postings < self.sizes.postings,
+            Item::Orders(_) => self.known.orders < self.sizes.orders,
+            Item::Runs(_) => self.known.runs < self.sizes.runs,
+            _ => true,
+        }
+    }
+
+    // An item that has room, or else the fault.
+    fn seated(&self, item: Item) -> Result<Item, Fault>
+        ensures { result ≡ seated_in self.now.sizes self.now.known (Ok item) }
+    {
+        self.has_room(item).then_some(item).ok_or(Fault::Room)
+    }
+
+    fn worker_in(&self, field: &[u8]) -> Option<u8>
+        ensures { result ≡ worker_in self.now.known field.now }
+    {
+        natural(field, 0, self.known.workers.saturating_sub(1) as u64).map(|worker| worker as u8)
+    }
+
+    fn opens(&self, account: &[u8], value: &[u8]) -> Result<Item, Fault>
+        ensures { result ≡ opens_in self.now.known account.now value.now }
+    {
+        let account = natural(account, self.known.account as u64, 63).ok_or(Fault::Field(2))?;
+        let cents = cents(value)
+            .filter(|cents| *cents != 0)
+            .ok_or(Fault::Field(3))?;
+        Ok(Item::Opened(Opens {
             account: account as u8,
-            cents: v,
-        })),
-        _ => Err(Fault::Field(3)),
+            cents,
+        }))
     }
-}
 
-fn keeps(known: &Progress, house: &[u8], keeper: &[u8]) -> Result<Item, Fault>
-    ensures { result ≡ keeps_in known.now house.now keeper.now }
-{
-    let last = known.seen.min(known.houses.saturating_sub(1));
-    let Some(_) = natural(house, known.seen as u64, last as u64) else {
-        return Err(Fault::Field(2));
-    };
-    let Some(keeper) = natural(keeper, 0, known.workers.saturating_sub(1) as u64) else {
-        return Err(Fault::Field(3));
-    };
-    Ok(Item::Kept(keeper as u8))
-}
-
-fn account_in(field: &[u8]) -> Option<u8>
-    ensures { result ≡ account_in field.now }
-{
-    match natural(field, 0, 63) {
-        Some(n) => Some(n as u8),
-        None => None,
+    fn keeps(&self, house: &[u8], keeper: &[u8]) -> Result<Item, Fault>
+        ensures { result ≡ keeps_in self.now.known house.now keeper.now }
+    {
+        let last = self.known.seen.min(self.known.houses.saturating_sub(1));
+        natural(house, self.known.seen as u64, last as u64).ok_or(Fault::Field(2))?;
+        let keeper = self.worker_in(keeper).ok_or(Fault::Field(3))?;
+        Ok(Item::Kept(keeper))
     }
-}
 
-// One place reads the accounts of all kinds and one the cents: with a place for each kind a processor guesses wrong where the
-// next line leads, which takes it longer than the line.
-fn order_in(kind: Kind, field: &[u8]) -> Option<OrderLine>
-    ensures { result ≡ order_in kind field.now }
-{
-    match kind {
-        Kind::Take | Kind::Join | Kind::Write => {
-            let account = account_in(field)?;
-            match kind {
-                Kind::Take => Some(OrderLine::Take(account)),
-                Kind::Join => Some(OrderLine::Join(account)),
-                _ => Some(OrderLine::Write(account)),
-            }
-        }
-        _ => {
-            let v = cents(field)?;
-            match kind {
-                Kind::Set => Some(OrderLine::Set(v)),
-                Kind::Raise => Some(OrderLine::Raise(v)),
-                _ => Some(OrderLine::Need(v)),
-            }
+    fn runs(&self, worker: &[u8], count: &[u8]) -> Result<Item, Fault>
+        ensures { result ≡ runs_in self.now.known worker.now count.now }
+    {
+        let worker = self.worker_in(worker).ok_or(Fault::Field(2))?;
+        let count = natural(count, 1, 10_000).ok_or(Fault::Field(3))?;
+        Ok(Item::Runs(Run {
+            worker,
+            count: count as u16,
+        }))
+    }
+
+    // What the fields after the mark say, by the mark's rule.
+    fn said_by(&self, mark: Mark, fields: Fields<'_>) -> Result<Item, Fault>
+        requires { field_total fields + 1 ≡ field_count mark }
+        ensures { result ≡ said_in self.now.known mark (first_in fields.entry) (second_in fields.entry) (third_in fields.entry) }
+    {
+        match (mark, fields) {
+            (Mark::Begin, Fields::Three(houses, workers, patience)) => begins(
+                houses, workers, patience,
+            ),
+            (Mark::Opening, Fields::Two(account, value)) => self.opens(account, value),
+            (Mark::House, Fields::Two(house, keeper)) => self.keeps(house, keeper),
+            (Mark::Posting, Fields::Zero) => Ok(Item::Posts),
+            (Mark::Order(kind), Fields::One(field)) => orders(kind, field),
+            (Mark::Run, Fields::Two(worker, count)) => self.runs(worker, count),
+            _ => unreachable!(),
         }
     }
-}
 
-fn orders(kind: Kind, field: &[u8]) -> Result<Item, Fault>
-    ensures { result ≡ orders_in kind field.now }
-{
-    match order_in(kind, field) {
-        Some(order) => Ok(Item::Orders(order)),
-        None => Err(Fault::Field(2)),
+    // What a line of this letter and these fields says.
+    fn tested(&self, letter: u8, fields: Fields<'_>) -> Result<Item, Fault>
+        ensures { result ≡ tested_in self.now.sizes self.now.known (field_total fields.entry + 1) (letter_mark letter) (first_in fields.entry) (second_in fields.entry) (third_in fields.entry) }
+    {
+        let mark = letter_mark(letter as char).ok_or(Fault::Form)?;
+        if fields.count() + 1 != mark.field_count() {
+            return Err(Fault::Form);
+        }
+        if !self.stands(mark) {
+            return Err(Fault::Place);
+        }
+        let item = self.said_by(mark, fields)?;
+        self.seated(item)
     }
-}
 
-fn runs(known: &Progress, worker: &[u8], count: &[u8]) -> Result<Item, Fault>
-    ensures { result ≡ runs_in known.now worker.now count.now }
-{
-    let Some(worker) = natural(worker, 0, known.workers.saturating_sub(1) as u64) else {
-        return Err(Fault::Field(2));
-    };
-    let Some(count) = natural(count, 1, 10_000) else {
-        return Err(Fault::Field(3));
-    };
-    Ok(Item::Runs(Run {
-        worker: worker as u8,
-        count: count as u16,
-    }))
-}
+    // What a line `P` says. Most lines are order lines, but lines `P` are the shortest: they go this quick way.
+    fn posts(&self) -> Result<Item, Fault>
+        ensures { result ≡ tested_in self.now.sizes self.now.known 1 (letter_mark 80) [] [] [] }
+    {
+        if !self.stands(Mark::Posting) {
+            return Err(Fault::Place);
+        }
+        self.seated(Item::Posts)
+    }
 
-// What the fields after the mark say, by the mark's rule.
-fn said_by(known: &Progress, mark: Mark, line: &Line) -> Result<Item, Fault>
-    ensures { result ≡ said_by known.now mark line.now.first.now line.now.second.now line.now.third.now }
-{
-    match mark {
-        Mark::Begin => begins(line.first, line.second, line.third),
-        Mark::Opening => opens(known, line.first, line.second),
-        Mark::House => keeps(known, line.first, line.second),
-        Mark::Posting => Ok(Item::Posts),
-        Mark::Order(kind) => orders(kind, line.first),
-        Mark::Run => runs(known, line.first, line.second),
+    // What a line of this letter says that goes on with this.
+    fn judge_line(&self, letter: u8, next: Next<'a>) -> Result<Judged<'a>, Fault>
+        ensures { JudgesLine self.now.sizes self.now.known letter next.entry result }
+    {
+        let line = line_from(next);
+        let item = self.tested(letter, line.fields)?;
+        Ok(Judged {
+            item,
+            rest: line.rest,
+        })
     }
-}
 
-fn tested(sizes: &Sizes, known: &Progress, line: &Line) -> Result<Item, Fault>
-    ensures { result ≡ tested_in sizes.now known.now line.now.count (mark_in line.now.mark.now) line.now.first.now line.now.second.now line.now.third.now }
-{
-    let Some(mark) = mark_in(line.mark) else {
-        return Err(Fault::Form);
-    };
-    if line.count != field_count(mark) {
-        return Err(Fault::Form);
+    // What the first line of the text that is left says.
+    pub(crate) fn judge(&self) -> Result<Judged<'a>, Fault>
+        ensures { Judges self.now.sizes self.now.known self.now.rest.now result }
+    {
+        if let [b'P', b'\n', rest @ ..] = self.rest {
+            let item = self.posts()?;
+            return Ok(Judged { item, rest });
+        }
+        match self.rest {
+            [letter, b',', rest @ ..] => self.judge_line(*letter, Next::Field(rest)),
+            [letter, b'\n', rest @ ..] => self.judge_line(*letter, Next::Line(rest)),
+            [letter] => self.judge_line(*letter, Next::Line(&[])),
+            _ => Err(Fault::Form),
+        }
     }
-    if !stands(known, mark) {
-        return Err(Fault::Place);
-    }
-    let item = said_by(known, mark, line)?;
-    seated(sizes, known, item)
-}
 
-// What a line `P` says.
-fn posts(sizes: &Sizes, known: &Progress) -> Result<Item, Fault>
-    ensures { result ≡ judged_in sizes.now known.now ((80 ∷ []) ∷ []) }
-{
-    if !stands(known, Mark::Posting) {
-        return Err(Fault::Place);
+    // Past a line that was accepted.
+    pub(crate) fn enter(&mut self, judged: Judged<'a>)
+        requires { Accepts self.old.sizes self.old.known self.old.rest.now judged }
+        ensures sizes { self.new.sizes ≡ self.old.sizes }
+        ensures known { self.new.known ≡ entered self.old.known judged.entry.item }
+        ensures rest { self.new.rest.now ≡ judged.entry.rest.now }
+    {
+        self.known.enter(judged.item, self.sizes);
+        self.rest = judged.rest;
     }
-    seated(sizes, known, Item::Posts)
-}
-
-// What the first line of the text says, after the lines before it.
-pub(crate) fn judge<'a>(
-    sizes: &Sizes,
-    known: &Progress,
-    text: &'a [u8],
-) -> Result<Judged<'a>, Fault>
-    ensures { Judges sizes.now known.now text.now result }
-{
-    if let Some(rest) = after_posting(text) {
-        let item = posts(sizes, known)?;
-        return Ok(Judged { item, rest });
-    }
-    let line = first_line(text);
-    let item = tested(sizes, known, &line)?;
-    Ok(Judged {
-        item,
-        rest: line.rest,
-    })
 }

@@ -1,31 +1,14 @@
-use Rattle.std.proofs.Common.{◌+◌, length, get_or, drop, ap, ◌∙◌, arith}
-use Rattle.std.proofs.lemmas.List.{at_drop_more, at_drop_all}
-use Rattle.batch.specs.Parts.{first_field}
-use Rattle.batch.proofs.Cuts.{field_comma, field_feed, field_other}
+use Rattle.std.proofs.Common.{◌≡◌, length, ◌∙◌, Some, None, cond, ltb, rules}
+use borrow.Author.Tests.{tests}
+use Rattle.std.specs.List.{position_or_len}
+use Rattle.std.proofs.lemmas.Iterator.{YieldsList-from_slice}
+use Rattle.std.proofs.lemmas.Iterator.Search.{position_from_yields_List}
+use Rattle.batch.proofs.Cuts.{stops, at_place}
 use Rattle.batch.proofs.cutting.stop.Goals as goal
 
-pub loop-i-preserved : goal.loop-i-preserved
-loop-i-preserved c =
+pub returns-clause-front : goal.returns-clause-front
+returns-clause-front c =
     let s = c.args.text.now in
-    let i = c.loop-i.i in
-    let e = ap length (at_drop_more first_field s i 0 c.loop-i-test.true) ∙ field_other (get_or s i 0) (drop (i + 1) s) c.if-c-eq44.false c.if-c-eq10.false in
-    omega arith
-
-pub returns-then-c-eq44 : goal.returns-then-c-eq44
-returns-then-c-eq44 c =
-    let s = c.args.text.now in
-    let i = c.loop-i.i in
-    let e = ap length (at_drop_more first_field s i 0 c.loop-i-test.true) ∙ field_comma (get_or s i 0) (drop (i + 1) s) c.if-c-eq44.true in
-    record { front = omega arith; within = omega arith }
-
-pub returns-then-c-eq10 : goal.returns-then-c-eq10
-returns-then-c-eq10 c =
-    let s = c.args.text.now in
-    let i = c.loop-i.i in
-    let e = ap length (at_drop_more first_field s i 0 c.loop-i-test.true) ∙ field_feed (get_or s i 0) (drop (i + 1) s) c.if-c-eq44.false c.if-c-eq10.true in
-    record { front = omega arith; within = omega arith }
-
-pub returns : goal.returns
-returns c =
-    let e = ap length (at_drop_all first_field c.args.text.now c.loop-i.i (omega arith)) in
-    record { front = omega arith; within = omega arith }
+    let place : c.position.result ≡ cond (ltb (position_or_len stops s) (length s)) (Some (position_or_len stops s)) None =
+    position_from_yields_List stops _ _ c.position.result c.position.ensures.ran (YieldsList-from_slice s cc) (λ x b q k. search (rules, tests)) in
+    c.unwrap_or.ensures ∙ at_place s c.position.result place

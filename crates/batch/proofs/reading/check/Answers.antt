@@ -1,68 +1,79 @@
-use Rattle.std.proofs.Common.{◌≡◌, ◌+◌, ◌<◌, ◌≤◌, Bool, cond, ◌∷◌, length, Ok, Err, sym, ap, ◌∙◌, arith, rules, false-eqb}
+use Rattle.std.proofs.Common.{◌≡◌, ◌+◌, ◌<◌, ◌≤◌, Bool, cond, ◌∷◌, [], length, Ok, Err, refl, sym, ap, ◌∙◌, subst, arith, rules, false-eqb}
+use Rattle.batch.specs.declared.items.Fault.{Fault}
 use Rattle.batch.specs.declared.items.BatchRefusal.TheVariants.{End}
-use Rattle.batch.specs.Reading.{answered}
+use Rattle.batch.specs.declared.judging.Judged.{Judged}
+use Rattle.batch.specs.Judging.{Judges, Accepts}
+use Rattle.batch.specs.Parts.{lines, fields, first_line}
+use Rattle.batch.specs.Rules.{judged}
+use Rattle.batch.specs.Reading.{answered, said}
 use Rattle.batch.specs.Refusals.{refusal_at}
 use Rattle.batch.proofs.Cuts.{after_less}
-use Rattle.batch.proofs.Said.{known_more, step_ok, batch_refused, batch_ended, closes_open, closes_missing, closes_well}
+use Rattle.batch.proofs.Said.{known_more, step_ok, told_refused, batch_ended, closes_open, closes_missing, closes_well, ends_feed, ends_open}
+use Rattle.batch.proofs.reading.check.Goals.{then-not-ends_with-via-then-not-ends_with, then-not-ends_with-via-else-not-ends_with+then-reader}
 use Rattle.batch.proofs.reading.check.Goals as goal
 
-pub returns-in-Err : goal.returns-in-Err
-returns-in-Err c =
-    let i = c.loop-rest.invariant in
-    let f = c.in-Err.fault in
+pub loop-line-init : goal.loop-line-init
+loop-line-init c =
+    let e = c.new-reader.ensures in
+    ([], e.sizes, e.known, refl, ap (λ l. said c.args.sizes [] (lines l)) e.rest, omega (arith, ap length e.rest))
+
+pub returns-in_err-judged : goal.returns-in_err-judged
+returns-in_err-judged c =
+    let i = c.loop-line.invariant in
+    let reader = c.loop-line.reader in
     let some : 0 < length c.args.text.now = search rules in
-    let few : length c.args.text.now ≤ 32768 = omega arith in
-    let more : 0 < length c.loop-rest.rest.now = search rules in
-    let n : c.loop-rest.line + 1 ≡ length i.0 + 1 = omega (arith, i.2) in
-    ap Err (c.at.ensures ∙ ap (λ k. refusal_at k f) n)
-    ∙ sym (ap answered (batch_refused c.args.sizes c.loop-rest.known i.0 c.args.text.now c.loop-rest.rest.now f some few i.3 i.1 more c.in-Err.ensures))
+    let more : 0 < length reader.rest.now = search rules in
+    let ok : (j : Judged) → c.judge.result ≡ Ok j → c.map_err.result ≡ Ok j = λ j h. search rules in
+    let err : (f : Fault) → c.judge.result ≡ Err f → c.map_err.result ≡ Err (refusal_at (c.loop-line.line + 1) f) = λ f h. search rules in
+    let judges : Judges c.args.sizes reader.known reader.rest.now c.judge.result = subst (λ t. Judges t reader.known reader.rest.now c.judge.result) i.1 c.judge.ensures in
+    let last : c.from_residual.result ≡ Err c.in_err-judged.field-0.0 = search rules in
+    last ∙ told_refused c.args.sizes reader.known i.0 c.args.text.now reader.rest.now (c.loop-line.line + 1) c.judge.result c.map_err.result c.in_err-judged.field-0.0
+    some (omega arith) i.4 i.2 more (omega arith) judges ok err c.in_err-judged.was
 
-pub loop-rest-smaller : goal.loop-rest-smaller
-loop-rest-smaller c =
-    let more : 0 < length c.loop-rest.rest.now = omega (arith, false-eqb (length c.loop-rest.rest.now) 0 c.loop-rest-test.ensures) in
-    omega (arith, ap length (c.after-rest.ensures ∙ c.in-Ok.ensures.rest), after_less c.loop-rest.rest.now more)
+pub loop-line-smaller : goal.loop-line-smaller
+loop-line-smaller c =
+    let reader = c.loop-line.reader in
+    let more : 0 < length reader.rest.now = omega (arith, false-eqb (length reader.rest.now) 0 c.loop-line-test.ensures) in
+    let a : Accepts reader.sizes reader.known reader.rest.now c.in_ok-judged.judged = search rules in
+    omega (arith, ap length (c.enter.ensures.rest ∙ a.rest), after_less reader.rest.now more)
 
-pub loop-rest-preserved : goal.loop-rest-preserved
-loop-rest-preserved c =
-    let i = c.loop-rest.invariant in
-    let item = c.in-Ok.judged.item in
-    let rest = c.loop-rest.rest.now in
-    let more : 0 < length rest = omega (arith, false-eqb (length rest) 0 c.loop-rest-test.ensures) in (
+pub loop-line-preserved : goal.loop-line-preserved
+loop-line-preserved c =
+    let i = c.loop-line.invariant in
+    let reader = c.loop-line.reader in
+    let item = c.in_ok-judged.judged.item in
+    let more : 0 < length reader.rest.now = omega (arith, false-eqb (length reader.rest.now) 0 c.loop-line-test.ensures) in
+    let a : Accepts reader.sizes reader.known reader.rest.now c.in_ok-judged.judged = search rules in
+    let said : judged c.args.sizes reader.known (fields (first_line reader.rest.now)) ≡ Ok item = ap (λ t. judged t reader.known (fields (first_line reader.rest.now))) (sym i.1) ∙ a.item in
+    let rest = c.enter.ensures.rest ∙ a.rest in (
       item ∷ i.0,
-      known_more c.loop-rest.known _ i.0 item i.1 c.enter.ensures,
-      omega (arith, i.2),
-      step_ok c.args.sizes c.loop-rest.known i.0 rest _ item i.1 more c.in-Ok.ensures.item (c.after-rest.ensures ∙ c.in-Ok.ensures.rest) ∙ i.3,
-      omega (arith, i.4, ap length (c.after-rest.ensures ∙ c.in-Ok.ensures.rest), after_less rest more),
+      c.enter.ensures.sizes ∙ i.1,
+      known_more reader.known _ i.0 item i.2 c.enter.ensures.known,
+      omega (arith, i.3),
+      step_ok c.args.sizes reader.known i.0 reader.rest.now _ item i.2 more said rest ∙ i.4,
+      omega (arith, i.5, ap length rest, after_less reader.rest.now more),
     )
 
-pub returns-then-text-ne10 : goal.returns-then-text-ne10
-returns-then-text-ne10 c =
-    let i = c.loop-rest.invariant in
+pub returns-then-not-ends_with : goal.returns-then-not-ends_with
+returns-then-not-ends_with c =
+    let i = c.loop-line.invariant in
     let text = c.args.text.now in
     let some : 0 < length text = search rules in
     let few : length text ≤ 32768 = omega arith in
-    let none : length c.loop-rest.rest.now ≡ 0 = search rules in
-    ap (λ n. Err (End n)) i.2
-    ∙ sym (ap answered (batch_ended c.args.sizes i.0 text c.loop-rest.rest.now some few i.3 none
-    ∙ ap (λ (b : Bool). cond b (Ok i.0) (Err (End (length i.0)))) (closes_open text i.0 c.if-text-ne10.true)))
-
-pub returns-then-known : goal.returns-then-known
-returns-then-known c =
-    let i = c.loop-rest.invariant in
-    let text = c.args.text.now in
-    let some : 0 < length text = search rules in
-    let few : length text ≤ 32768 = omega arith in
-    let none : length c.loop-rest.rest.now ≡ 0 = search rules in
-    ap (λ n. Err (End n)) i.2
-    ∙ sym (ap answered (batch_ended c.args.sizes i.0 text c.loop-rest.rest.now some few i.3 none
-    ∙ ap (λ (b : Bool). cond b (Ok i.0) (Err (End (length i.0)))) (closes_missing text i.0 c.loop-rest.known i.1 c.if-known.true)))
+    let none : length c.loop-line.reader.rest.now ≡ 0 = search rules in
+    ap (λ n. Err (End n)) i.3
+    ∙ sym (ap answered (batch_ended c.args.sizes i.0 text c.loop-line.reader.rest.now some few i.4 none
+    ∙ ap (λ (b : Bool). cond b (Ok i.0) (Err (End (length i.0)))) (elim c.then-not-ends_with.branch [
+      | then-not-ends_with-via-then-not-ends_with w ↦ closes_open text i.0 (ends_open text c.ends_with.result some c.ends_with.ensures.value w.if-not-ends_with.true)
+      | then-not-ends_with-via-else-not-ends_with+then-reader w ↦ closes_missing text i.0 c.loop-line.reader.known i.2 w.if-reader.true
+    ])))
 
 pub returns : goal.returns
 returns c =
-    let i = c.loop-rest.invariant in
+    let i = c.loop-line.invariant in
     let text = c.args.text.now in
     let some : 0 < length text = search rules in
     let few : length text ≤ 32768 = omega arith in
-    let none : length c.loop-rest.rest.now ≡ 0 = search rules in
-    sym (ap answered (batch_ended c.args.sizes i.0 text c.loop-rest.rest.now some few i.3 none
-    ∙ ap (λ (b : Bool). cond b (Ok i.0) (Err (End (length i.0)))) (closes_well text i.0 c.loop-rest.known i.1 c.if-text-ne10.false c.if-known.false)))
+    let none : length c.loop-line.reader.rest.now ≡ 0 = search rules in
+    sym (ap answered (batch_ended c.args.sizes i.0 text c.loop-line.reader.rest.now some few i.4 none
+    ∙ ap (λ (b : Bool). cond b (Ok i.0) (Err (End (length i.0)))) (closes_well text i.0 c.loop-line.reader.known i.2 (ends_feed text c.ends_with.result some c.ends_with.ensures.value c.if-not-ends_with.false) c.if-reader.false)))
