@@ -9,7 +9,7 @@ use batch::{OrderLine, Posting};
 pub(crate) const STARTS: usize = 17;
 
 // The postings of up to 16 houses and their order lines, as a batch gives them. Whatever it holds is in order.
-#[derive(Drop)]
+#[derive(Debug, Drop)]
 pub struct BatchTable<'a> {
     pub(crate) houses: u8,
     pub(crate) postings: &'a [Posting],

@@ -28,7 +28,7 @@ pub enum Ending {
 }
 
 // What a posting worked alone comes to.
-#[derive(Clone, Copy)]
+#[derive(Clone, Copy, Debug, PartialEq, Eq)]
 pub struct Draft {
     // Whether the posting read the balance of an account.
     pub reads: [bool; ACCOUNTS],

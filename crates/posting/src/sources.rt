@@ -6,7 +6,7 @@ use crate::order::Order;
 use journal::{PostingId, in_range};
 
 // What a source is asked about: a line of a posting, reached with this hand. Postings count from 1, lines from 0.
-#[derive(Clone, Copy, PartialEq, Eq)]
+#[derive(Clone, Copy, Debug, PartialEq, Eq)]
 pub struct Question {
     pub posting: PostingId,
     pub line: usize,
