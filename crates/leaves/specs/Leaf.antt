@@ -3,8 +3,7 @@
 --   16-31 the accounts of the pairs, 32-159 their values, eight bytes each
 -- The hand and the values are in two's complement. Unused places are zero.
 use Rattle.std.specs.Prelude.{◌≡◌, ℕ, zero, suc, ◌+◌, ◌-◌, ◌*◌, ◌/◌, ◌%◌, min, true, cond, List, [], ◌∷◌, ◌++◌, map, length, drop, replicate, ℤ, ◌==◌, slice_index}
-use Rattle.std.proofs.Common.{to_z, of_z}
-use Rattle.std.specs.Int.{w64}
+use Rattle.std.specs.Int.{w64, cast_signed, cast_unsigned}
 use Rattle.std.specs.List.{flat_map}
 use Rattle.journal.specs.Entries.{Posted, Lawful, lawful}
 use Rattle.journal.specs.declared.entry.Pair.{Pair}
@@ -27,10 +26,10 @@ word64 bs =
 
 -- two's complement in 64 bits
 abbrev pub signed_bytes : ℤ → List ℕ
-signed_bytes z = bytes64 (of_z w64 z)
+signed_bytes z = bytes64 (cast_unsigned w64 z)
 
 abbrev pub signed_of : List ℕ → ℤ
-signed_of bs = to_z w64 (word64 bs)
+signed_of bs = cast_signed w64 (word64 bs)
 
 -- these bytes and then zeros, n in all
 abbrev pub padded : ℕ → List ℕ → List ℕ

@@ -40,6 +40,7 @@ impl<'a> ClosedBook<'a> {
     }
 }
 
+// The same answers stand in `byte_filing`: a crate may not implement the trait of another for all types with leaves.
 impl<'a> Reading for ClosedBook<'a> {
     ghost entries = { book_entries };
 

@@ -42,6 +42,7 @@ impl<'a> Leaves<'a> {
     }
 }
 
+// The same answers stand in `book_reading`: a crate may not implement the trait of another for all types with leaves.
 impl<'a> Reading for Leaves<'a> {
     ghost entries = { leaf_entries };
 

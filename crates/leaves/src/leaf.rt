@@ -88,25 +88,18 @@ pub(crate) fn count_on(leaf: &[u8; LEAF]) -> usize
     ensures value { result ≡ length (entry_on leaf.now).pairs }
     ensures few { result ≤ 16 }
 {
-    (leaf[2] as usize).min(MAX_PAIRS)
+    usize::from(leaf[2]).min(MAX_PAIRS)
 }
 
-fn value_at(leaf: &[u8; LEAF], j: usize) -> i64
-    requires { j < 16 }
-    ensures { result ≡ signed_of (drop (32 + 8 * j) leaf.now) }
-{
-    let at = 32 + 8 * j;
-    i64::from_be_bytes(leaf[at..at + 8].try_into().unwrap())
-}
-
-// What stands at the place of pair `j`, be there a pair or padding.
+// What stands at the place of pair `j`, be it a pair or padding.
 fn pair_at(leaf: &[u8; LEAF], j: usize) -> Pair
     requires { j < 16 }
     ensures { result ≡ record { account = slice_index leaf.now (16 + j); value = signed_of (drop (32 + 8 * j) leaf.now) } }
 {
+    let at = 32 + 8 * j;
     Pair {
         account: leaf[16 + j],
-        value: value_at(leaf, j),
+        value: i64::from_be_bytes(leaf[at..at + 8].try_into().unwrap()),
     }
 }
 
@@ -123,7 +116,7 @@ pub(crate) fn given_on(leaf: &[u8; LEAF], account: u8) -> Option<i64>
 {
     let accounts = &leaf[16..16 + count_on(leaf)];
     let j = accounts.iter().position(|a| *a == account)?;
-    Some(value_at(leaf, j))
+    Some(pair_at(leaf, j).value)
 }
 
 fn all_pairs(leaf: &[u8; LEAF]) -> [Pair; MAX_PAIRS]

@@ -1,9 +1,6 @@
-use Rattle.std.proofs.Common.{refl, inl, inr}
+use Rattle.std.proofs.Common.{refl, inr}
 use Rattle.leaves.proofs.Opened.{not_good}
 use Rattle.leaves.proofs.book_reading.checked.Goals as goal
-
-pub returns-in-Ok : goal.returns-in-Ok
-returns-in-Ok c = inl (c.in-Ok.ensures, refl)
 
 pub returns-in-Err : goal.returns-in-Err
 returns-in-Err c = inr (not_good _ _ c.in-Err.ensures, refl)

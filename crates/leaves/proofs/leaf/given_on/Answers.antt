@@ -4,6 +4,7 @@ use Rattle.std.specs.Option.{option_map}
 use Rattle.std.proofs.lemmas.Int.{to_z-of_z}
 use Rattle.std.proofs.lemmas.Iterator.{YieldsList-from_slice, IsFirst-from_position}
 use Rattle.leaves.specs.Leaf.{signed_of}
+use Rattle.journal.specs.declared.entry.Pair.{Pair}
 use Rattle.leaves.proofs.LeafPairs.{length_pairs, given_first}
 use Rattle.leaves.proofs.leaf.given_on.Goals as goal
 
@@ -27,7 +28,7 @@ returns c =
     let cut : (16 + c.count_on.result) - 16 ≡ n = omega (arith, count) in
     let first = IsFirst-from_position _ _ _ (λ a. eqb a c.args.account ≡ true) (λ a. eqb a c.args.account ≡ false) c.position.ensures.ran
     (YieldsList-from_slice c.iter.result.rest.now refl) (λ x q k. search (rules, tests)) (λ x q k. search (rules, tests)) in
-    let f : SFits w64 c.value_at.result = search rules in
-    ap Some (to_z-of_z w64 c.value_at.result f ∙ c.value_at.ensures)
+    let f : SFits w64 c.pair_at.result.value = search rules in
+    ap Some (to_z-of_z w64 c.pair_at.result.value f ∙ ap (λ (pair : Pair). pair.value) c.pair_at.ensures)
     ∙ sym (ap (option_map (λ j. signed_of (drop (32 + 8 * j) bs))) c.in_ok-j.was)
     ∙ given_first bs c.iter.result.rest.now n c.args.account c.position.result (omega arith) (c.iter.ensures.rest ∙ ap (λ (k : ℕ). take k (drop 16 bs)) cut) first
