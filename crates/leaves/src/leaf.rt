@@ -115,8 +115,10 @@ pub(crate) fn given_on(leaf: &[u8; LEAF], account: u8) -> Option<i64>
     ensures { result ≡ given_in (entry_on leaf.now).pairs account }
 {
     let accounts = &leaf[16..16 + count_on(leaf)];
-    let j = accounts.iter().position(|a| *a == account)?;
-    Some(pair_at(leaf, j).value)
+    accounts
+        .iter()
+        .position(|a| *a == account)
+        .map(|j| pair_at(leaf, j).value)
 }
 
 fn all_pairs(leaf: &[u8; LEAF]) -> [Pair; MAX_PAIRS]
