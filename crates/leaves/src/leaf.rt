@@ -124,12 +124,7 @@ pub(crate) fn given_on(leaf: &[u8; LEAF], account: u8) -> Option<i64>
 fn all_pairs(leaf: &[u8; LEAF]) -> [Pair; MAX_PAIRS]
     ensures { result ≡ pairs_on 16 (drop 16 leaf.now) (drop 32 leaf.now) }
 {
-    array::from_fn(
-        |j|
-            requires { j < 16 }
-            ensures { result ≡ record { account = slice_index leaf.entry.now (16 + j); value = signed_of (drop (32 + 8 * j) leaf.entry.now) } }
-        { pair_at(leaf, j) },
-    )
+    array::from_fn(|j| pair_at(leaf, j))
 }
 
 // Reads a leaf.
