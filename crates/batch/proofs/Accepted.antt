@@ -25,8 +25,7 @@ use Rattle.batch.specs.declared.cutting.Next.{Next}
 use Rattle.batch.specs.declared.judging.Judged.{Judged}
 use Rattle.batch.specs.Judging.{Judges, JudgesLine}
 use Rattle.batch.specs.Cuts.{fields_in, after_in, field_total, first_in, second_in, third_in, Lists}
-use Rattle.batch.specs.Parts.{fields, first_line, after_line, first_field}
-use Rattle.batch.proofs.Cuts.{fields_more}
+use Rattle.batch.specs.Parts.{fields, first_line, after_line}
 use Rattle.batch.specs.Rules.{ask, order_in, said_by, room_for, seated, tested, judged}
 
 pub natural_bounds : (low high : ℕ) (f : List ℕ) (n : ℕ) → natural low high f ≡ Some n → (low ≤ n) × (n ≤ high)
@@ -235,44 +234,6 @@ begun_comma t s (c ∷ d ∷ cs) rest l e r = subst (λ x. Begun t s (c ∷ x �
         → fields (cond x [] (c ∷ 44 ∷ first_line cs)) ≡ cond x ([] ∷ []) (cond y ([] ∷ [] ∷ fields (first_line cs)) ((c ∷ []) ∷ fields (first_line cs)))
     go true y h = refl
     go false y h = ap (λ (b : Bool). cond b ([] ∷ [] ∷ fields (first_line cs)) ((c ∷ []) ∷ fields (first_line cs))) h
-
-pub begun_feed : (t : Sizes) (s : Progress) (text rest : List ℕ) → 1 < length text → get_or text 1 0 ≡ 10 → rest ≡ drop 2 text
-    → Begun t s text (get_or text 0 0) [] rest
-begun_feed t s [] rest l e r = absurd (omega arith)
-begun_feed t s (c ∷ []) rest l e r = absurd (omega arith)
-begun_feed t s (c ∷ d ∷ cs) rest l e r = subst (λ x. Begun t s (c ∷ x ∷ cs) c [] rest) (sym e)
-    (begun_by t s c (c ∷ 10 ∷ cs) [] rest (alone_fields c (eqb c 10) (eqb c 44) refl) (λ h. ap (λ (b : Bool). cond b (10 ∷ cs) cs) h ∙ sym r))
-  where
-    alone_fields : (c : ℕ) (x y : Bool) → eqb c 44 ≡ y → fields (cond x [] (c ∷ [])) ≡ cond x ([] ∷ []) (cond y ([] ∷ [] ∷ []) ((c ∷ []) ∷ []))
-    alone_fields c true y h = refl
-    alone_fields c false y h = ap (λ (b : Bool). cond b ([] ∷ [] ∷ []) ((c ∷ []) ∷ [])) h
-
-pub begun_alone : (t : Sizes) (s : Progress) (text : List ℕ) → length text ≡ 1 → Begun t s text (get_or text 0 0) [] []
-begun_alone t s [] l = absurd (omega arith)
-begun_alone t s (c ∷ d ∷ cs) l = absurd (omega arith)
-begun_alone t s (c ∷ []) l = begun_by t s c (c ∷ []) [] [] (alone_fields c (eqb c 10) (eqb c 44) refl) (λ h. ap (λ (b : Bool). cond {A = List ℕ} b [] []) h)
-  where
-    alone_fields : (c : ℕ) (x y : Bool) → eqb c 44 ≡ y → fields (cond x [] (c ∷ [])) ≡ cond x ([] ∷ []) (cond y ([] ∷ [] ∷ []) ((c ∷ []) ∷ []))
-    alone_fields c true y h = refl
-    alone_fields c false y h = ap (λ (b : Bool). cond b ([] ∷ [] ∷ []) ((c ∷ []) ∷ [])) h
-
--- no mark is longer than one letter
-pub begun_by_none : (t : Sizes) (s : Progress) (text : List ℕ) → (length text ≡ 1 → ⊥) → (1 < length text → get_or text 1 0 ≡ 44 → ⊥) → (1 < length text → get_or text 1 0 ≡ 10 → ⊥)
-    → judged t s (fields (first_line text)) ≡ Err Form
-begun_by_none t s text one comma feed = no_mark t s (fields (first_line text)) (ap (λ l. mark_in (get_or l 0 [])) (fields_more text) ∙ go text one comma feed)
-  where
-    longer : (x y : Bool) (c d : ℕ) (l : List ℕ) → mark_in (cond x [] (cond y [] (c ∷ d ∷ l))) ≡ None
-    longer true y c d l = refl
-    longer false true c d l = refl
-    longer false false c d l = refl
-
-    go : (l : List ℕ) → (length l ≡ 1 → ⊥) → (1 < length l → get_or l 1 0 ≡ 44 → ⊥) → (1 < length l → get_or l 1 0 ≡ 10 → ⊥) → mark_in (first_field l) ≡ None
-    go [] one comma feed = refl
-    go (c ∷ []) one comma feed = absurd (one refl)
-    go (c ∷ d ∷ cs) one comma feed =
-        ap (λ (b : Bool). mark_in (cond (eqb c 44) [] (cond (eqb c 10) [] (c ∷ cond b [] (cond (eqb d 10) [] (d ∷ first_field cs)))))) (ne_eqb d 44 (comma (omega arith)))
-        ∙ ap (λ (b : Bool). mark_in (cond (eqb c 44) [] (cond (eqb c 10) [] (c ∷ cond b [] (d ∷ first_field cs))))) (ne_eqb d 10 (feed (omega arith)))
-        ∙ longer (eqb c 44) (eqb c 10) c d (first_field cs)
 
 -- a line is judged by its letter and what it goes on with
 pub judged_line : (t : Sizes) (s : Progress) (text : List ℕ) (letter : ℕ) (next : Next) (r : Result Judged Fault) → Begun t s text letter (fields_in next) (after_in next)

@@ -53,11 +53,7 @@ fn run_of(item: Item) -> Option<Run>
     ensures { option_to_list result ≡ run_of item }
 {
     match item {
-        // Field by field, each read as it was stored: a copy in one go would wait for the stores, on every line.
-        Item::Runs(run) => Some(Run {
-            worker: run.worker,
-            count: run.count,
-        }),
+        Item::Runs(run) => Some(run),
         _ => None,
     }
 }

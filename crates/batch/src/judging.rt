@@ -27,26 +27,27 @@ pub struct Reader<'a> {
     pub rest: &'a [u8],
 }
 
-fn letter_mark(letter: char) -> Option<Mark>
-    ensures { result ≡ letter_mark letter }
-{
-    match letter {
-        'B' => Some(Mark::Begin),
-        'O' => Some(Mark::Opening),
-        'H' => Some(Mark::House),
-        'P' => Some(Mark::Posting),
-        'G' => Some(Mark::Run),
-        'T' => Some(Mark::Order(Kind::Take)),
-        'U' => Some(Mark::Order(Kind::Join)),
-        'S' => Some(Mark::Order(Kind::Set)),
-        'A' => Some(Mark::Order(Kind::Raise)),
-        'N' => Some(Mark::Order(Kind::Need)),
-        'W' => Some(Mark::Order(Kind::Write)),
-        _ => None,
-    }
-}
-
 impl Mark {
+    // The mark that a letter stands for.
+    fn of_letter(letter: char) -> Option<Self>
+        ensures { result ≡ letter_mark letter }
+    {
+        match letter {
+            'B' => Some(Mark::Begin),
+            'O' => Some(Mark::Opening),
+            'H' => Some(Mark::House),
+            'P' => Some(Mark::Posting),
+            'G' => Some(Mark::Run),
+            'T' => Some(Mark::Order(Kind::Take)),
+            'U' => Some(Mark::Order(Kind::Join)),
+            'S' => Some(Mark::Order(Kind::Set)),
+            'A' => Some(Mark::Order(Kind::Raise)),
+            'N' => Some(Mark::Order(Kind::Need)),
+            'W' => Some(Mark::Order(Kind::Write)),
+            _ => None,
+        }
+    }
+
     // How many fields its lines have, the mark included.
     fn field_count(self) -> usize
         ensures { result ≡ field_count self }
@@ -207,7 +208,7 @@ impl<'a> Reader<'a> {
     fn tested(&self, letter: u8, fields: Fields<'_>) -> Result<Item, Fault>
         ensures { result ≡ tested_in self.now.sizes self.now.known (field_total fields.entry + 1) (letter_mark letter) (first_in fields.entry) (second_in fields.entry) (third_in fields.entry) }
     {
-        let mark = letter_mark(letter as char).ok_or(Fault::Form)?;
+        let mark = Mark::of_letter(letter as char).ok_or(Fault::Form)?;
         if fields.count() + 1 != mark.field_count() {
             return Err(Fault::Form);
         }

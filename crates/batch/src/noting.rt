@@ -1,9 +1,9 @@
 // What a plan tells, and how accepted lines fill it.
 ghost use Rattle.std.specs.Prelude.{◌≡◌, ℕ, ◌<◌, ◌≤◌, IfSome};
 ghost use Rattle.batch.specs.Limits.{Within};
-ghost use Rattle.batch.specs.Plans.{terms, blank as blank_terms, keeper_of, noted};
+ghost use Rattle.batch.specs.Plans.{terms, fresh, blank as blank_terms, keeper_of, noted};
 
-use crate::items::Item;
+use crate::items::{Head, Item};
 use crate::plan::Plan;
 use crate::progress::Progress;
 
@@ -12,10 +12,24 @@ impl Plan {
     pub fn blank() -> Self
         ensures { terms result ≡ blank_terms }
     {
-        Plan {
+        Plan::fresh(Head {
             houses: 1,
             workers: 1,
             patience: 1,
+        })
+    }
+
+    // As the first line tells it, with zeros for what comes later.
+    fn fresh(head: Head) -> Self
+        requires houses { (1 ≤ head.houses) × (head.houses ≤ 16) }
+        requires workers { (1 ≤ head.workers) × (head.workers ≤ 8) }
+        requires patience { (1 ≤ head.patience) × (head.patience ≤ 1000) }
+        ensures { terms result ≡ fresh head.houses head.workers head.patience }
+    {
+        Plan {
+            houses: head.houses,
+            workers: head.workers,
+            patience: head.patience,
             keepers: [0; 16],
             openings: [0; 64],
         }
@@ -65,15 +79,7 @@ impl Plan {
         ensures { terms self.new ≡ noted (terms self.old) known.now.seen item }
     {
         match item {
-            Item::Begins(head) => {
-                *self = Plan {
-                    houses: head.houses,
-                    workers: head.workers,
-                    patience: head.patience,
-                    keepers: [0; 16],
-                    openings: [0; 64],
-                };
-            }
+            Item::Begins(head) => *self = Plan::fresh(head),
             Item::Opened(opens) => self.openings[opens.account as usize] = opens.cents,
             Item::Kept(keeper) => self.keepers[known.seen as usize] = keeper,
             _ => {}

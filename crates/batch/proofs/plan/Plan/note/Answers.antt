@@ -1,24 +1,13 @@
-use Rattle.std.proofs.Common.{ℕ, ◌<◌, pos, nat_abs, sym, ap, subst, arith, w64, SFits, rules}
+use Rattle.std.proofs.Common.{◌<◌, pos, sym, subst, arith, w64, SFits, rules}
 use Rattle.std.proofs.lemmas.Int.{to_z-of_z}
 use Rattle.journal.specs.Entries.{InRange}
-use Rattle.batch.specs.declared.items.Item.TheVariants.{Begins, Opened, Kept}
+use Rattle.batch.specs.declared.items.Item.TheVariants.{Opened, Kept}
 use Rattle.batch.specs.Limits.{Within}
-use Rattle.batch.proofs.Zeros.{all_same, set_all}
+use Rattle.batch.proofs.Zeros.{set_all}
 use Rattle.batch.proofs.plan.Plan.note.Goals as goal
 
 pub invariant_of-self : goal.invariant_of-self
 invariant_of-self c =
-    let w : Within c.args.known.now (Begins c.in-Begins.head) = subst (Within c.args.known.now) c.in-Begins.is c.requires.within in
-    record {
-      house = w.0;
-      worker = w.1;
-      patient = w.2;
-      kept = λ k. omega (arith, all_same {X = ℕ} 16 k 0, w.1.0);
-      ranged = λ k. omega (arith, ap nat_abs (all_same 64 k (pos 0)));
-    }
-
-pub invariant_of-self-in-Opened : goal.invariant_of-self-in-Opened
-invariant_of-self-in-Opened c =
     let p = c.args.self.now in
     let o = c.in-Opened.opens in
     let w : Within c.args.known.now (Opened o) = subst (Within c.args.known.now) c.in-Opened.is c.requires.within in
