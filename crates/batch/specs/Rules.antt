@@ -40,7 +40,7 @@ worker_in s a = natural 0 (s.workers - 1) a
 -- H,house,keeper with the houses in order
 abbrev pub keeps : Progress → List ℕ → List ℕ → Result Item Fault
 keeps s a b =
-    ask 2 (natural s.seen (min s.seen (s.houses - 1)) a) (λ house. ask 3 (natural 0 (s.workers - 1) b) (λ keeper.
+    ask 2 (natural s.seen (min s.seen (s.houses - 1)) a) (λ house. ask 3 (worker_in s b) (λ keeper.
     Ok (Kept keeper)))
 
 -- T,account U,account S,cents A,cents N,cents W,account
@@ -62,7 +62,7 @@ orders k a = ask 2 (order_in k a) (λ o. Ok (Orders o))
 -- G,worker,count
 abbrev pub runs : Progress → List ℕ → List ℕ → Result Item Fault
 runs s a b =
-    ask 2 (natural 0 (s.workers - 1) a) (λ worker. ask 3 (natural 1 10000 b) (λ count.
+    ask 2 (worker_in s a) (λ worker. ask 3 (natural 1 10000 b) (λ count.
     Ok (Runs record { worker = worker; count = count })))
 
 -- the rule of a line's fields after its mark, leftmost first
