@@ -58,7 +58,8 @@ fn run_of(item: Item) -> Option<Run>
     }
 }
 
-// One more line into the tables, which have room for it.
+// One more line into the tables, which have room for it. The rolls are lent one by one: of a `&mut` in a struct each
+// function would have to say that it is still the lender's.
 fn put(
     sizes: Sizes,
     known: &Progress,

@@ -1,5 +1,6 @@
 // The tests of one line.
-ghost use Rattle.std.specs.Prelude.{◌≡◌, ◌+◌, [], ◌∷◌, Ok};
+ghost use Rattle.std.specs.Prelude.{◌≡◌, ◌+◌, [], ◌∷◌, Ok, Err, MatchOption};
+ghost use Rattle.batch.specs.declared.items.Fault.TheVariants.{Form};
 ghost use Rattle.batch.specs.Marks.{letter_mark, field_count, stands as stands_in};
 ghost use Rattle.batch.specs.Progress.{start, entered};
 ghost use Rattle.batch.specs.Rules.{account_in, begins as begins_in, opens as opens_in, keeps as keeps_in, worker_in, order_in, orders as orders_in, runs as runs_in, said_by as said_in, room_for, tested as tested_in, seated as seated_in};
@@ -27,27 +28,30 @@ pub struct Reader<'a> {
     pub rest: &'a [u8],
 }
 
-impl Mark {
-    // The mark that a letter stands for.
-    fn of_letter(letter: char) -> Option<Self>
-        ensures { result ≡ letter_mark letter }
-    {
+impl TryFrom<char> for Mark {
+    type Error = Fault;
+
+    ghost try_from_gives = { λ letter mark. MatchOption (letter_mark letter) (mark ≡ Err Form) (λ m. mark ≡ Ok m) };
+
+    fn try_from(letter: char) -> Result<Self, Fault> {
         match letter {
-            'B' => Some(Mark::Begin),
-            'O' => Some(Mark::Opening),
-            'H' => Some(Mark::House),
-            'P' => Some(Mark::Posting),
-            'G' => Some(Mark::Run),
-            'T' => Some(Mark::Order(Kind::Take)),
-            'U' => Some(Mark::Order(Kind::Join)),
-            'S' => Some(Mark::Order(Kind::Set)),
-            'A' => Some(Mark::Order(Kind::Raise)),
-            'N' => Some(Mark::Order(Kind::Need)),
-            'W' => Some(Mark::Order(Kind::Write)),
-            _ => None,
+            'B' => Ok(Mark::Begin),
+            'O' => Ok(Mark::Opening),
+            'H' => Ok(Mark::House),
+            'P' => Ok(Mark::Posting),
+            'G' => Ok(Mark::Run),
+            'T' => Ok(Mark::Order(Kind::Take)),
+            'U' => Ok(Mark::Order(Kind::Join)),
+            'S' => Ok(Mark::Order(Kind::Set)),
+            'A' => Ok(Mark::Order(Kind::Raise)),
+            'N' => Ok(Mark::Order(Kind::Need)),
+            'W' => Ok(Mark::Order(Kind::Write)),
+            _ => Err(Fault::Form),
         }
     }
+}
 
+impl Mark {
     // How many fields its lines have, the mark included.
     fn field_count(self) -> usize
         ensures { result ≡ field_count self }
@@ -208,7 +212,7 @@ impl<'a> Reader<'a> {
     fn tested(&self, letter: u8, fields: Fields<'_>) -> Result<Item, Fault>
         ensures { result ≡ tested_in self.now.sizes self.now.known (field_total fields.entry + 1) (letter_mark letter) (first_in fields.entry) (second_in fields.entry) (third_in fields.entry) }
     {
-        let mark = Mark::of_letter(letter as char).ok_or(Fault::Form)?;
+        let mark = Mark::try_from(letter as char)?;
         if fields.count() + 1 != mark.field_count() {
             return Err(Fault::Form);
         }

@@ -12,7 +12,7 @@ use crate::leaf::{LEAF, count_on, given_on, hand_on, identity_on, pair_on, void_
 use crate::pages::leaves_in;
 use journal::{MAX_ENTRIES, Pair, PostingId, Reading};
 
-// The bytes if they are a closed book, else none of them.
+// The bytes if they are a closed book, else none of them: a match, so that both cases stand in sight.
 fn checked(bytes: &[u8]) -> &[u8]
     ensures { Kept bytes.now result.now }
 {
