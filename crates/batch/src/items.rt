@@ -110,7 +110,7 @@ impl From<BatchRefusal> for u8 {
 }
 
 impl BatchRefusal {
-    // The line, or 0 if it is the text as a whole.
+    // The line, or 0 if it is the text as a whole: an `Option` would be turned back into 0 wherever it is printed.
     pub fn line(self) -> usize
         ensures { result ≡ refusal_line self }
     {
@@ -124,7 +124,7 @@ impl BatchRefusal {
         }
     }
 
-    // The field, or 0 if no field breaks its rule.
+    // The field, or 0 if no field breaks its rule, which is printed as well.
     pub fn field(self) -> u8
         ensures { result ≡ refusal_field self }
     {

@@ -8,7 +8,7 @@ ghost use Rattle.journal.specs.Entries.{InRange};
 // Patience is how many failed rounds of a posting its keeper bears before it calls the other workers for help.
 // Every plan keeps these limits. Only an accepted batch fills one, and nobody can copy it. It has one size, whatever it holds, so that
 // no heap is needed.
-#[derive(Drop)]
+#[derive(Debug, Drop)]
 pub struct Plan {
     pub(crate) houses: u8,
     pub(crate) workers: u8,

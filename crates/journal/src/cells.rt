@@ -10,7 +10,7 @@ use crate::records::Records;
 use roll::Roll;
 
 // A journal in records of the host's memory: the first 4,096 of them, or all if they are fewer.
-#[derive(Drop)]
+#[derive(Debug, Drop)]
 pub struct Cells<'a> {
     roll: Roll<'a, Entry>,
 }

@@ -4,7 +4,7 @@ ghost use Rattle.std.specs.Prelude.{◌≡◌, ◌<◌, ◌≤◌, min, take, Ma
 use journal::{Pair, PostingId, Reading};
 
 // A reading of the first `most` entries of another, or of all if they are fewer.
-#[derive(Drop)]
+#[derive(Debug, Drop)]
 pub struct FirstEntries<'a, R> {
     pub reading: &'a R,
     pub most: usize,

@@ -4,7 +4,7 @@ ghost use Rattle.std.specs.Prelude.{◌≤◌, vec_len, vec_capacity};
 use journal::Entry;
 
 // A journal on the heap. Its room is reserved when it is made, so that filing needs no memory.
-#[derive(Drop)]
+#[derive(Debug, Drop)]
 pub struct HeapJournal {
     pub(crate) entries: Vec<Entry>,
     pub(crate) size: usize,

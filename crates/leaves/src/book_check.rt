@@ -26,7 +26,7 @@ impl From<BookRefusal> for u8 {
 }
 
 impl BookRefusal {
-    // The broken leaf, or 0 where none is told: a number in any case, since that is what is printed.
+    // The broken leaf, or 0 where none is told: an `Option` would be turned back into 0 wherever it is printed.
     pub fn leaf(self) -> usize
         ensures { result ≡ book_leaf self }
     {

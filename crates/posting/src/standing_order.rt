@@ -38,7 +38,7 @@ impl From<StandingRefusal> for u8 {
 }
 
 impl StandingRefusal {
-    // The bad record, or 0 where none is told: a number in any case, as of every refusal.
+    // The bad record, or 0 where none is told: an `Option` would be turned back into 0 wherever it is printed.
     pub fn place(self) -> usize
         ensures { result ≡ standing_record self }
     {

@@ -7,8 +7,8 @@ ghost use Rattle.protocol.specs.WorkedRun.{AWorkedRun, HelpIsNoSooner};
 
 const LAST_KIND: u8 = 8;
 
-// The kinds of turns are numbers, the first of the four that a turn answers, and go from 0 to this one. Whatever calls are made
-// since its opening, an office keeps the laws named here.
+// The kinds of turns go from 0 to this one. They stay numbers, since a turn answers four of them and the rules are written
+// over them. Whatever calls are made since its opening, an office keeps the laws named here.
 pub fn last_kind() -> u8
     ensures kind { result ≡ 8 }
     ensures promise { ExactlyOnceAloneAndHelped }

@@ -59,7 +59,7 @@ impl From<RunRefusal> for u8 {
 }
 
 impl RunRefusal {
-    // The refused item, or 0 where it is the list as a whole: a number in any case, since that is what is printed.
+    // The refused item, or 0 where it is the list as a whole: an `Option` would be turned back into 0 where it is printed.
     pub fn item(self) -> usize
         ensures { result ≡ run_item self }
     {

@@ -1,7 +1,8 @@
 // What an office tells.
 
 // An open house: the number of its posting, its help date, 0 for none, and how many rounds of its keeper on the
-// posting have failed. All are 0 for a house that is closed: an enquiry tells three numbers, and 0 is its word for none.
+// posting have failed. All are 0 for a house that is closed: an enquiry tells three numbers, and 0 is its word for
+// none, as the formats say.
 #[derive(Clone, Copy, Debug, PartialEq, Eq)]
 pub struct HouseTold {
     pub number: u32,

@@ -10,7 +10,7 @@ ghost use Rattle.std.specs.List.{slice_get};
 pub struct Full;
 
 // The first `used` cells hold the list. The memory is the lender's, so how much of it is used stands beside it.
-#[derive(Drop)]
+#[derive(Debug, Drop)]
 pub struct Roll<'a, T> {
     cells: &'a mut [T],
     used: usize,
