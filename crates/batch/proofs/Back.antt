@@ -8,7 +8,6 @@ use Rattle.std.specs.Str.{bytes_eq}
 use Rattle.std.proofs.lemmas.Slice.Eq.{bytes_eq-Decides}
 use Rattle.std.proofs.lemmas.List.{append_assoc, append-nil}
 use Rattle.std.proofs.lemmas.Bool.{and_parts}
-use Rattle.journal.specs.Lines.{commaed}
 use Rattle.batch.specs.declared.records.OrderLine.{OrderLine}
 use Rattle.batch.specs.declared.records.OrderLine.TheVariants as line
 use Rattle.batch.specs.declared.items.Kind.{Kind}
@@ -66,32 +65,18 @@ unfoldable pub written : List Item → List ℕ
 written [] = []
 written (i ∷ past) = written past ++ item_line (seen_in past) i
 
--- fields parted by commas: a comma before each but the first
-abbrev pub parted : List (List ℕ) → List ℕ
-parted [] = []
-parted (f ∷ fs) = f ++ commaed fs
-
-parted_commas : (ps : List (List ℕ)) → parted ps ≡ commas ps
-unfolding commaed
-parted_commas [] = refl
-parted_commas (p ∷ []) = append-nil p
-parted_commas (p ∷ q ∷ ps) = ap (λ l. p ++ (44 ∷ l)) (parted_commas (q ∷ ps))
-
-line_of_fields : (seen : ℕ) (i : Item) → commas (item_fields seen i) ++ (10 ∷ []) ≡ item_line seen i
-line_of_fields seen (Begins h) = refl
-line_of_fields seen (Opened o) = refl
-line_of_fields seen (Kept k) = refl
-line_of_fields seen Posts = refl
-line_of_fields seen (Orders (line.Take a)) = refl
-line_of_fields seen (Orders (line.Join a)) = refl
-line_of_fields seen (Orders (line.Set v)) = refl
-line_of_fields seen (Orders (line.Raise v)) = refl
-line_of_fields seen (Orders (line.Need v)) = refl
-line_of_fields seen (Orders (line.Write a)) = refl
-line_of_fields seen (Runs r) = refl
-
-pub same_line : (seen : ℕ) (i : Item) → parted (item_fields seen i) ++ (10 ∷ []) ≡ item_line seen i
-same_line seen i = ap (λ l. l ++ (10 ∷ [])) (parted_commas (item_fields seen i)) ∙ line_of_fields seen i
+pub same_line : (seen : ℕ) (i : Item) → commas (item_fields seen i) ++ (10 ∷ []) ≡ item_line seen i
+same_line seen (Begins h) = refl
+same_line seen (Opened o) = refl
+same_line seen (Kept k) = refl
+same_line seen Posts = refl
+same_line seen (Orders (line.Take a)) = refl
+same_line seen (Orders (line.Join a)) = refl
+same_line seen (Orders (line.Set v)) = refl
+same_line seen (Orders (line.Raise v)) = refl
+same_line seen (Orders (line.Need v)) = refl
+same_line seen (Orders (line.Write a)) = refl
+same_line seen (Runs r) = refl
 
 -- a number's field is its text
 
@@ -246,27 +231,26 @@ some_fields (c ∷ cs) = go (eqb c 44)
     go true = omega arith
     go false = onto_some c (fields cs)
 
-parted_onto : (c : ℕ) (ps : List (List ℕ)) → 0 < length ps → parted (onto c ps) ≡ c ∷ parted ps
+parted_onto : (c : ℕ) (ps : List (List ℕ)) → 0 < length ps → commas (onto c ps) ≡ c ∷ commas ps
 parted_onto c [] h = absurd (omega arith)
-parted_onto c (p ∷ ps) h = refl
+parted_onto c (p ∷ []) h = refl
+parted_onto c (p ∷ q ∷ ps) h = refl
 
-parted_more : (ps : List (List ℕ)) → 0 < length ps → parted ([] ∷ ps) ≡ 44 ∷ parted ps
-unfolding commaed
+parted_more : (ps : List (List ℕ)) → 0 < length ps → commas ([] ∷ ps) ≡ 44 ∷ commas ps
 parted_more [] h = absurd (omega arith)
 parted_more (p ∷ ps) h = refl
 
-parted_fields : (s : List ℕ) → parted (fields s) ≡ s
-unfolding commaed
+parted_fields : (s : List ℕ) → commas (fields s) ≡ s
 parted_fields [] = refl
 parted_fields (c ∷ cs) =
-    let P : Bool → Type 0 = λ b. eqb c 44 ≡ b → parted (cond b ([] ∷ fields cs) (onto c (fields cs))) ≡ c ∷ cs in
+    let P : Bool → Type 0 = λ b. eqb c 44 ≡ b → commas (cond b ([] ∷ fields cs) (onto c (fields cs))) ≡ c ∷ cs in
     (elim (eqb c 44) as P [
       | true ↦ λ q. parted_more (fields cs) (some_fields cs) ∙ ap (λ l. 44 ∷ l) (parted_fields cs) ∙ ap (λ x. x ∷ cs) (sym (eqb-true c 44 q))
       | false ↦ λ q. parted_onto c (fields cs) (some_fields cs) ∙ ap (λ l. c ∷ l) (parted_fields cs)
     ]) refl
 
 line_back : (t : Sizes) (s : Progress) (l : List ℕ) (i : Item) → judged t s (fields l) ≡ Ok i → l ++ (10 ∷ []) ≡ item_line s.seen i
-line_back t s l i e = ap (λ x. x ++ (10 ∷ [])) (sym (parted_fields l) ∙ ap parted (judged_back t s (fields l) i e)) ∙ same_line s.seen i
+line_back t s l i e = ap (λ x. x ++ (10 ∷ [])) (sym (parted_fields l) ∙ ap commas (judged_back t s (fields l) i e)) ∙ same_line s.seen i
 
 -- the lines, each ended by a line feed
 

@@ -63,10 +63,6 @@ written_as f n d l z e b = sym (decimal-digits_value own f d l z (omega arith)) 
 
 -- one more digit
 
-pub digits_more : (f : List ℕ) (i : ℕ) → i < length f → is_ascii_digit (get_or f i 0) ≡ true → all_ascii_digits (drop i f) ≡ all_ascii_digits f → all_ascii_digits (drop (i + 1) f) ≡ all_ascii_digits f
-digits_more f i h t e =
-    ap (λ b. b && all_ascii_digits (drop (i + 1) f)) (sym t) ∙ sym (at_drop_more all_ascii_digits f i 0 h) ∙ e
-
 pub read_more : (n : ℕ) (f : List ℕ) (i : ℕ) → i < length f → read_on n (drop i f) ≡ read_on 0 f → read_on (n * 10 + (get_or f i 0 - 48)) (drop (i + 1) f) ≡ read_on 0 f
 read_more n f i h e = sym (at_drop_more (read_on n) f i 0 h) ∙ e
 

@@ -1,5 +1,5 @@
 -- What is written, line by line, is read.
-use Rattle.std.proofs.Common.{◌≡◌, ℕ, zero, suc, ◌-◌, ◌^◌, ◌<◌, ◌≤◌, min, Bool, true, cond, List, [], ◌∷◌, ◌++◌, length, get_or, ℤ, pos, negsuc, neg_ℤ, Some, Ok, Err, decimal, Option, Result, sym, refl, ap, ◌∙◌, subst, arith, lt-ltb, eq-eqb, ne_eqb}
+use Rattle.std.proofs.Common.{◌≡◌, ℕ, zero, suc, ◌-◌, ◌^◌, ◌<◌, ◌≤◌, min, Bool, true, cond, List, [], ◌∷◌, ◌++◌, length, get_or, ℤ, pos, negsuc, neg_ℤ, Some, Ok, Err, decimal, Option, Result, sym, refl, ap, ◌∙◌, arith, lt-ltb, eq-eqb, ne_eqb}
 use Rattle.std.specs.Option.{option_map}
 use Rattle.std.specs.Int.{IsInRange}
 use Rattle.std.specs.Fmt.{signed_decimal}
@@ -7,7 +7,6 @@ use Rattle.std.proofs.lemmas.Fmt.{decimal_nonempty}
 use Rattle.std.proofs.lemmas.List.{append_assoc, append-nil, length_push, get_or_push}
 use Rattle.std.proofs.lemmas.Bool.{and_from}
 use Rattle.journal.specs.Entries.{InRange}
-use Rattle.journal.specs.Lines.{commaed}
 use Rattle.batch.specs.declared.records.OrderLine.{OrderLine}
 use Rattle.batch.specs.declared.records.OrderLine.TheVariants as line
 use Rattle.batch.specs.declared.items.Kind.{Kind}
@@ -29,8 +28,8 @@ use Rattle.batch.specs.Progress.{sofar, houses_in, workers_in}
 use Rattle.batch.specs.Reading.{said, closes, ended, batch_of_any_length, Lawful}
 use Rattle.batch.specs.Rules.{ask, order_in, said_by, room_for, seated, tested, judged}
 use Rattle.batch.specs.Tables.{seen_in}
-use Rattle.batch.specs.Texts.{ReadsBack}
-use Rattle.batch.proofs.Back.{parted, item_fields, item_line, written, same_line, same_past}
+use Rattle.batch.specs.Texts.{commas, ReadsBack}
+use Rattle.batch.proofs.Back.{item_fields, item_line, written, same_line, same_past}
 use Rattle.batch.proofs.Digits.{decimal_at, natural_some}
 use Rattle.batch.proofs.Said.{said_ok, any_lines}
 use Rattle.batch.proofs.Signs.{cents_plain}
@@ -82,15 +81,13 @@ abbrev AllOver : List (List ℕ) → Type 0
 AllOver [] = Unit {0}
 AllOver (f ∷ fs) = Over 44 f × AllOver fs
 
-fields_parted : (f : List ℕ) (fs : List (List ℕ)) → AllOver (f ∷ fs) → fields (parted (f ∷ fs)) ≡ f ∷ fs
-unfolding commaed
-fields_parted f [] h = ap fields (append-nil f) ∙ fields_one f h.0
-fields_parted f (g ∷ fs) h = parts_cut 44 ([] ∷ []) f (parted (g ∷ fs)) h.0 ∙ ap (λ l. f ∷ l) (fields_parted g fs h.1)
+fields_parted : (f : List ℕ) (fs : List (List ℕ)) → AllOver (f ∷ fs) → fields (commas (f ∷ fs)) ≡ f ∷ fs
+fields_parted f [] h = fields_one f h.0
+fields_parted f (g ∷ fs) h = parts_cut 44 ([] ∷ []) f (commas (g ∷ fs)) h.0 ∙ ap (λ l. f ∷ l) (fields_parted g fs h.1)
 
-over_parted : (f : List ℕ) (fs : List (List ℕ)) → AllOver (f ∷ fs) → Over 10 (parted (f ∷ fs))
-unfolding commaed
-over_parted f [] h = subst (Over 10) (sym (append-nil f)) (over_less 10 44 f (omega arith) h.0)
-over_parted f (g ∷ fs) h = over_append 10 f (44 ∷ parted (g ∷ fs)) (over_less 10 44 f (omega arith) h.0) (omega arith, over_parted g fs h.1)
+over_parted : (f : List ℕ) (fs : List (List ℕ)) → AllOver (f ∷ fs) → Over 10 (commas (f ∷ fs))
+over_parted f [] h = over_less 10 44 f (omega arith) h.0
+over_parted f (g ∷ fs) h = over_append 10 f (44 ∷ commas (g ∷ fs)) (over_less 10 44 f (omega arith) h.0) (omega arith, over_parted g fs h.1)
 
 -- numbers are read as they are written
 
@@ -246,10 +243,10 @@ over_rest s (Runs r) k w = (over_decimal r.worker (omega (arith, w.0, k.workers)
 -- a line without its line feed
 
 abbrev line_for : ℕ → Item → List ℕ
-line_for seen i = parted ((code (mark_of i) ∷ []) ∷ rest_of seen i)
+line_for seen i = commas ((code (mark_of i) ∷ []) ∷ rest_of seen i)
 
 line_is : (seen : ℕ) (i : Item) → item_line seen i ≡ line_for seen i ++ (10 ∷ [])
-line_is seen i = sym (same_line seen i) ∙ ap (λ fs. parted fs ++ (10 ∷ [])) (fields_are seen i)
+line_is seen i = sym (same_line seen i) ∙ ap (λ fs. commas fs ++ (10 ∷ [])) (fields_are seen i)
 
 line_judged : (t : Sizes) (s : Progress) (i : Item) → Known s → Allowed t s i → judged t s (fields (line_for s.seen i)) ≡ Ok i
 line_judged t s i k a =

@@ -1,5 +1,5 @@
 -- The tables after each line.
-use Rattle.std.proofs.Common.{◌≡◌, ℕ, ◌+◌, ◌<◌, Bool, true, false, cond, ◌||◌, eqb, ltb, List, [], ◌∷◌, ◌++◌, length, drop, Ok, Err, Result, sym, refl, ap, ◌∙◌, subst, arith, ltb-true}
+use Rattle.std.proofs.Common.{◌≡◌, ℕ, ◌+◌, ◌<◌, Bool, true, false, cond, ◌||◌, eqb, ltb, List, [], ◌∷◌, ◌++◌, length, drop, Ok, Err, Result, sym, refl, ap, ◌∙◌, subst, arith}
 use Rattle.std.proofs.lemmas.List.{append_assoc, append-nil, length-append, drop-drop}
 use Rattle.roll.specs.declared.Roll.{Roll}
 use Rattle.roll.specs.Rolls.{items, unused, cells_of, capacity_of}
@@ -17,8 +17,8 @@ use Rattle.batch.specs.Parts.{lines, fields, first_line}
 use Rattle.batch.specs.Plans.{planned}
 use Rattle.batch.specs.Progress.{sofar, houses_in, workers_in}
 use Rattle.batch.specs.Reading.{said, closes, ended, batch, answered}
-use Rattle.batch.specs.Rules.{room_for, judged}
-use Rattle.batch.specs.Tables.{Grown, Anew, Tabled, posting_of, order_of, run_of}
+use Rattle.batch.specs.Rules.{judged}
+use Rattle.batch.specs.Tables.{Grown, Anew, Tabled}
 use Rattle.batch.specs.Refusals.{refusal_at}
 use Rattle.batch.proofs.Said.{all_said, step_err}
 
@@ -44,32 +44,6 @@ anew xs before cleared after a b c d g = record {
   size = g.size ∙ c;
   lender = g.lender ∙ d;
 }
-
--- a record that comes has room
-
-pub posting_room : (t : Sizes) (s : Progress) (i : Item) → room_for t s i ≡ true → 0 < length (posting_of s.seen s.orders i) → s.postings < t.postings
-posting_room t s (Begins h) r l = absurd (omega arith)
-posting_room t s (Opened o) r l = absurd (omega arith)
-posting_room t s (Kept k) r l = absurd (omega arith)
-posting_room t s Posts r l = ltb-true s.postings t.postings r
-posting_room t s (Orders o) r l = absurd (omega arith)
-posting_room t s (Runs u) r l = absurd (omega arith)
-
-pub order_room : (t : Sizes) (s : Progress) (i : Item) → room_for t s i ≡ true → 0 < length (order_of i) → s.orders < t.orders
-order_room t s (Begins h) r l = absurd (omega arith)
-order_room t s (Opened o) r l = absurd (omega arith)
-order_room t s (Kept k) r l = absurd (omega arith)
-order_room t s Posts r l = absurd (omega arith)
-order_room t s (Orders o) r l = ltb-true s.orders t.orders r
-order_room t s (Runs u) r l = absurd (omega arith)
-
-pub run_room : (t : Sizes) (s : Progress) (i : Item) → room_for t s i ≡ true → 0 < length (run_of i) → s.runs < t.runs
-run_room t s (Begins h) r l = absurd (omega arith)
-run_room t s (Opened o) r l = absurd (omega arith)
-run_room t s (Kept k) r l = absurd (omega arith)
-run_room t s Posts r l = absurd (omega arith)
-run_room t s (Orders o) r l = absurd (omega arith)
-run_room t s (Runs u) r l = ltb-true s.runs t.runs r
 
 -- the plan has the houses and the workers of the first line
 

@@ -1,5 +1,5 @@
 -- A text line by line.
-use Rattle.std.proofs.Common.{◌≡◌, ℕ, ◌+◌, ◌-◌, ◌<◌, ◌≤◌, Bool, true, false, cond, ◌||◌, ◌&&◌, drop, eqb-true, eqb, ltb, List, [], ◌∷◌, ◌++◌, length, get_or, Ok, Err, Result, sym, refl, ap, ◌∙◌, arith, le-ltb, lt-ltb, eq-eqb, ne_eqb}
+use Rattle.std.proofs.Common.{◌≡◌, ℕ, ◌+◌, ◌-◌, ◌<◌, ◌≤◌, Bool, true, false, cond, ◌||◌, ◌&&◌, drop, eqb-true, eqb, ltb, List, [], ◌∷◌, ◌++◌, length, get_or, Ok, Err, Result, sym, refl, ap, ◌∙◌, arith, le-ltb, eq-eqb, ne_eqb}
 use Rattle.std.specs.List.{ends_with}
 use Rattle.std.specs.Cmp.Lexicographic.{pointwise}
 use Rattle.std.proofs.lemmas.List.{drop_more, drop_all, length-append, append-nil, nil_from_length}
@@ -90,15 +90,6 @@ batch_is t text = go (eqb (length text) 0) (ltb 32768 (length text)) (ended text
     go true false r = refl
     go false true r = refl
     go false false r = refl
-
-pub batch_empty : (t : Sizes) (text : List ℕ) → length text ≡ 0 → batch t text ≡ Err Size
-batch_empty t text e =
-    batch_is t text
-    ∙ ap (λ (b : Bool). cond b (Err Size) (batch_of_any_length t text)) (le-ltb 32768 (length text) (omega arith))
-    ∙ ap (λ (b : Bool). cond b (Err Size) (ended text (said t [] (lines text)))) (eq-eqb (length text) 0 e)
-
-pub batch_long : (t : Sizes) (text : List ℕ) → 32768 < length text → batch t text ≡ Err Size
-batch_long t text h = batch_is t text ∙ ap (λ (b : Bool). cond b (Err Size) (batch_of_any_length t text)) (lt-ltb 32768 (length text) h)
 
 pub any_lines : (t : Sizes) (text : List ℕ) → 0 < length text → batch_of_any_length t text ≡ ended text (said t [] (lines text))
 any_lines t text l = ap (λ (b : Bool). cond b (Err Size) (ended text (said t [] (lines text)))) (ne_eqb (length text) 0 (λ z. omega arith))

@@ -58,8 +58,8 @@ fn run_of(item: Item) -> Option<Run>
     }
 }
 
-// One more line into the tables, which have room for it. The rolls are lent one by one: of a `&mut` in a struct each
-// function would have to say that it is still the lender's.
+// One more line into the tables, which have room for it. The rolls go one by one: a struct of the three was tried in three
+// forms, and the borrow checker covers no call with it in `read_batch`.
 fn put(
     sizes: Sizes,
     known: &Progress,
