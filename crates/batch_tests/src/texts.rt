@@ -2,25 +2,18 @@
 use batch::{OrderLine, Plan, Posting, Run};
 use roll::Roll;
 
-// What the reader, with tables of these sizes, tells of a text: number, line and field, or zeros if it is accepted.
-fn told<const POSTINGS: usize, const LINES: usize, const RUNS: usize>(
+// What the reader tells of a text: number, line and field, or zeros if it is accepted.
+fn told(
     text: &[u8],
+    postings: &mut [Posting],
+    lines: &mut [OrderLine],
+    runs: &mut [Run],
 ) -> (u8, usize, u8) {
     let mut plan = Plan::blank();
-    let mut postings = [Posting { house: 0, first: 0 }; POSTINGS];
-    let mut lines = [OrderLine::Set(0); LINES];
-    let mut runs = [Run {
-        worker: 0,
-        count: 1,
-    }; RUNS];
-    let read = batch::read_batch(
-        text,
-        &mut plan,
-        &mut Roll::new(&mut postings),
-        &mut Roll::new(&mut lines),
-        &mut Roll::new(&mut runs),
-    );
-    match read {
+    let mut postings = Roll::new(postings);
+    let mut lines = Roll::new(lines);
+    let mut runs = Roll::new(runs);
+    match batch::read_batch(text, &mut plan, &mut postings, &mut lines, &mut runs) {
         Ok(()) => (0, 0, 0),
         Err(refusal) => (u8::from(refusal), refusal.line(), refusal.field()),
     }
@@ -28,17 +21,41 @@ fn told<const POSTINGS: usize, const LINES: usize, const RUNS: usize>(
 
 // Tables of 2 postings, 20 order lines and 2 runs.
 pub(crate) fn small(text: &[u8]) -> (u8, usize, u8) {
-    told::<2, 20, 2>(text)
+    told(
+        text,
+        &mut [Posting { house: 0, first: 0 }; 2],
+        &mut [OrderLine::Set(0); 20],
+        &mut [Run {
+            worker: 0,
+            count: 1,
+        }; 2],
+    )
 }
 
 // Tables of 5,000 postings, 2,000 order lines and 9,000 runs.
 fn large(text: &[u8]) -> (u8, usize, u8) {
-    told::<5000, 2000, 9000>(text)
+    told(
+        text,
+        &mut [Posting { house: 0, first: 0 }; 5000],
+        &mut [OrderLine::Set(0); 2000],
+        &mut [Run {
+            worker: 0,
+            count: 1,
+        }; 9000],
+    )
 }
 
 // Tables of 200 postings, 2,000 order lines and 1,000 runs.
 fn usual(text: &[u8]) -> (u8, usize, u8) {
-    told::<200, 2000, 1000>(text)
+    told(
+        text,
+        &mut [Posting { house: 0, first: 0 }; 200],
+        &mut [OrderLine::Set(0); 2000],
+        &mut [Run {
+            worker: 0,
+            count: 1,
+        }; 1000],
+    )
 }
 
 #[cfg(test)]
