@@ -19,7 +19,8 @@ struct Cut<'a> {
     next: Next<'a>,
 }
 
-// The fields after the mark, where no line of a batch has more than three.
+// The fields after the mark, where no line of a batch has more than three. Not an array with a length, so that a rule
+// gets its fields by name, and a wrong count has none.
 #[derive(Clone, Copy, Debug)]
 pub enum Fields<'a> {
     Zero,
@@ -67,7 +68,7 @@ fn first_field(text: &[u8]) -> Cut<'_>
     }
 }
 
-// The rest of a line.
+// The rest of a line, field by field: each of the three has its own place in `Fields`.
 pub(crate) fn line_from(next: Next<'_>) -> Line<'_>
     ensures fields { Lists result.fields (fields_in next.entry) }
     ensures rest { length (fields_in next.entry) ≤ 3 → result.rest.now ≡ after_in next.entry }
@@ -109,8 +110,8 @@ pub(crate) fn line_from(next: Next<'_>) -> Line<'_>
 }
 
 impl Fields<'_> {
-    pub(crate) fn count(self) -> usize
-        ensures { result ≡ field_total self.entry }
+    pub(crate) fn count(&self) -> usize
+        ensures { result ≡ field_total self.now }
     {
         match self {
             Fields::Zero => 0,

@@ -4,7 +4,8 @@ ghost use Rattle.batch.specs.Fields.{natural as natural_in, cents as cents_in, D
 
 use journal::MOST_CENTS;
 
-// The number of which the field is the decimal text. A number above 10^15 may be answered none.
+// The number of which the field is the decimal text. A number above 10^15 may be answered none. A loop over the digits, since
+// a fold that stops would say the same test less plainly.
 fn decimal_in(field: &[u8]) -> Option<u64>
     ensures { Decimal field.now result }
 {

@@ -6,8 +6,8 @@ ghost use Rattle.journal.specs.Entries.{InRange};
 // A house is a client whose money is kept, and runs its postings one after the other, as a process its transactions.
 // A worker takes turns at posting, as a processor does; the keeper of a house is the worker that owns its postings.
 // Patience is how many failed rounds of a posting its keeper bears before it calls the other workers for help.
-// Every plan keeps these limits. Only an accepted batch fills one, and nobody can copy it. It has one size, whatever it holds, so that
-// no heap is needed.
+// Every plan keeps these limits. Only an accepted batch fills one, and nobody can copy it. It has one size, whatever it
+// holds, so that no heap is needed.
 #[derive(Debug, Drop)]
 pub struct Plan {
     pub(crate) houses: u8,

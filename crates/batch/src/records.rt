@@ -9,7 +9,8 @@ pub const MOST_POSTINGS: usize = 4096;
 pub const MOST_LINES: usize = 16;
 
 // A posting: its house, and the place of its first order line in the table of order lines.
-// Its order lines end where those of the next posting begin, or with the table.
+// Its order lines end where those of the next posting begin, or with the table. A place, since the host lends the two
+// tables apart.
 #[derive(Clone, Copy, Debug, PartialEq, Eq)]
 pub struct Posting {
     pub house: u8,

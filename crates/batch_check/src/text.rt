@@ -38,7 +38,8 @@ fn refused_text(heap: Global, refusal: BatchRefusal) -> Result<String, AllocErro
 fn accepted_text(heap: Global, found: Summary) -> Result<String, AllocError>
     ensures { IfOk result (λ text. string_bytes text ≡ accepted_text found) }
 {
-    // In two halves, since no proof was found of one string of six numbers: not by the check, a deeper search or `grind`.
+    // In two halves, since no proof was found of one string of six numbers: not by the check, a deeper search or
+    // `grind`.
     let mut text = format!(in heap; "B,{},{},{}", found.houses, found.workers, found.patience)?;
     let counts = format!(in heap; ",{},{},{}\n", found.postings, found.lines, found.runs)?;
     text.push_str(&counts)?;

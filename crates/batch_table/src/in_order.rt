@@ -15,7 +15,8 @@ pub struct Reached {
     pub here: usize,
     // Where the order lines of the last record begin.
     pub first: usize,
-    // How many it may have: none before the first record. A count and no `Option`, so that no test has a case for the start.
+    // How many it may have: none before the first record. A count and no `Option`, so that no test has a case for the
+    // start.
     pub most: usize,
 }
 
@@ -68,7 +69,8 @@ impl Reached {
     }
 }
 
-// Whether each record may come after those before it, and the last one's order lines end here.
+// Whether each record may come after those before it, and the last one's order lines end here. A loop, since each record is
+// tested against what is known of those before it.
 fn records_in_order(houses: u8, postings: &[Posting], end: usize) -> bool
     ensures { result ≡ records_in_order houses postings.now end }
 {

@@ -15,7 +15,8 @@ fn line_in_range(line: OrderLine) -> bool
         OrderLine::Take(account) | OrderLine::Join(account) | OrderLine::Write(account) => {
             account <= LAST_ACCOUNT
         }
-        // Arms of their own: where one pattern of a match joins accounts and another joins cents, the check gives no proof.
+        // Arms of their own: where one pattern of a match joins accounts and another joins cents, the check gives no
+        // proof.
         OrderLine::Set(cents) => in_range(cents),
         OrderLine::Raise(cents) => in_range(cents),
         OrderLine::Need(cents) => in_range(cents),

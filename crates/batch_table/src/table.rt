@@ -14,7 +14,7 @@ pub struct BatchTable<'a> {
     pub(crate) houses: u8,
     pub(crate) postings: &'a [Posting],
     pub(crate) lines: &'a [OrderLine],
-    // For each house, how many postings stand before its own.
+    // For each house, how many postings stand before its own: counted once, and of one size, so that no heap is needed.
     pub(crate) starts: [usize; STARTS],
     ghost few: { houses ≤ 16 },
     ghost good: { in_order houses postings.now lines.now ≡ true },

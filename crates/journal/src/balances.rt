@@ -32,7 +32,8 @@ impl From<BalanceRefusal> for u8 {
 }
 
 // The last of the first `k` entries, or of all where there are fewer, that gives the account a value.
-// It goes back from the end and stops there.
+// It goes back from the end and stops there, by a loop: as a `find_map` its proof did not close, by the check alone or by
+// `grind` on each of the three facts that it comes to.
 pub fn last_given<R: Reading>(journal: &R, account: u8, k: usize) -> Option<Given>
     ensures value { result ≡ last_given (R.Reading.entries journal.now) account k }
     ensures last { IsLast (R.Reading.entries journal.now) account k result }

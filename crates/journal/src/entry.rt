@@ -36,7 +36,8 @@ pub struct PostingId {
 pub struct Entry {
     pub house: u8,
     pub number: u32,
-    // A void posting gives no account a value. The mark is a field of its own, since a record may claim both, which is no entry.
+    // A void posting gives no account a value. The mark is a field of its own, since a record may claim both: that is no
+    // entry.
     pub void: bool,
     // The hand is the value that a house carries from one posting to its next, here as this posting leaves it.
     pub hand: i64,
@@ -90,7 +91,8 @@ fn pair_fits(pair: &Pair, least: u8) -> bool
     least <= pair.account && pair.account <= LAST_ACCOUNT && in_range(pair.value)
 }
 
-// Each pair is tested against the one before it: a loop says that plainer than a fold that stops.
+// Each pair is tested against the one before it. A loop says that plainer than a fold that stops, and `is_sorted_by` would
+// go over the pairs a second time.
 fn pairs_rise(pairs: &[Pair]) -> bool
     ensures { result ≡ rises 0 pairs.now }
 {

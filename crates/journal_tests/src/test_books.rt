@@ -79,20 +79,15 @@ fn at_the_limits() -> Entry {
     }
 }
 
-fn sample(k: usize) -> Entry {
-    match k {
-        0 => SAMPLE,
-        1 => edited(Edit::Void(0)),
-        2 => at_the_limits(),
-        _ => LONGEST,
-    }
+fn samples() -> [Entry; 4] {
+    [SAMPLE, edited(Edit::Void(0)), at_the_limits(), LONGEST]
 }
 
 // Four entries, filed on these bytes.
 fn file_four(rt: &impl Abort, bytes: &mut [u8]) {
     let mut journal = Leaves::new(bytes);
-    for k in 0..4 {
-        assert_eq!(rt; number_of(journal.file(k, &sample(k))), 0);
+    for (k, e) in samples().iter().enumerate() {
+        assert_eq!(rt; number_of(journal.file(k, e)), 0);
     }
     let bytes = journal.as_bytes();
     assert_eq!(rt; (bytes.len(), told(bytes)), (640, (0, 0)));
@@ -141,8 +136,8 @@ fn good_books(rt: HostRuntime) {
         );
     }
     let book = ClosedBook::open(&bytes);
-    for k in 0..4 {
-        reads_back(&rt, &book, k, &sample(k));
+    for (k, e) in samples().iter().enumerate() {
+        reads_back(&rt, &book, k, e);
     }
     reads_none(&rt, &book, 4);
 }

@@ -1,5 +1,5 @@
 -- A closed book opened on bytes.
-use Rattle.std.proofs.Common.{◌≡◌, ℕ, ◌/◌, List, length, Err, sym, ap, ◌∙◌, subst, inl, inr, arith}
+use Rattle.std.proofs.Common.{◌≡◌, ℕ, ◌/◌, List, [], length, cond, is_ok, Ok, Err, Result, sym, ap, ◌∙◌, subst, inl, inr, arith}
 use Rattle.leaves.specs.Leaf.{IsLeaf}
 use Rattle.leaves.specs.Pages.{leaf_at, whole_leaves, entries_on, page_entries, LeavesOfEntries, GoodBook, BookChecked, Kept, BookOpened}
 use Rattle.leaves.specs.declared.book_check.BookRefusal.{BookRefusal}
@@ -10,6 +10,11 @@ use Rattle.leaves.proofs.LeafTest.{own_leaf}
 pub not_good : (bs : List ℕ) (r : BookRefusal) → BookChecked bs (Err r) → GoodBook bs → ⊥
 not_good bs NotWholeLeaves h good = h good.whole
 not_good bs (BrokenLeaf k) h good = h.2 (good.leaves k h.1)
+
+-- what is kept, by what the check answers
+pub kept_by : (bs kept : List ℕ) (r : Result (Unit {0}) BookRefusal) → BookChecked bs r → kept ≡ cond (is_ok r) bs [] → Kept bs kept
+kept_by bs kept (Ok done) h e = inl (h, e)
+kept_by bs kept (Err f) h e = inr (not_good bs f h, e)
 
 -- each leaf that is kept says an entry, and is the leaf of that entry
 pub kept_leaves : (bs kept : List ℕ) → Kept bs kept → LeavesOfEntries (whole_leaves kept) kept

@@ -1,11 +1,14 @@
 -- Leaves in use, with one more of them, and as a closed book.
-use Rattle.std.proofs.Common.{◌≡◌, ℕ, suc, ◌+◌, ◌*◌, ◌/◌, ◌<◌, ◌≤◌, List, [], ◌∷◌, ◌++◌, length, get_or, take, drop, sym, ap, ◌∙◌, subst, add-one, arith, below_more}
+use Rattle.std.proofs.Common.{Some, None, Ok, Err, Option, Result, ◌≡◌, ℕ, suc, ◌+◌, ◌*◌, ◌/◌, ◌<◌, ◌≤◌, List, [], ◌∷◌, ◌++◌, length, get_or, take, drop, sym, ap, ◌∙◌, subst, add-one, arith, below_more}
 use Rattle.std.proofs.lemmas.List.{append_assoc, length-append, length-take-le, length-drop, take-append-drop, take-append-le, drop-append-le, take_at, drop_at}
 use Rattle.std.specs.List.{HoldsAt, AllWithin}
 use Rattle.std.specs.Simd.{first_chunks}
 use Rattle.journal.specs.Entries.{Posted, posted, Lawful, IsEntry}
 use Rattle.leaves.specs.Leaf.{entry_on, leaf_of, IsLeaf, IsLeafOfItsEntry}
-use Rattle.leaves.specs.Pages.{leaf_at, leaf_put, entries_on, LeavesOfEntries, GoodBook}
+use Rattle.leaves.specs.Pages.{leaf_at, leaf_put, entries_on, LeavesOfEntries, WholeBook, GoodBook, BookChecked}
+use Rattle.leaves.specs.declared.book_check.BookRefusal.{BookRefusal}
+use Rattle.leaves.specs.declared.book_check.BookRefusal.TheVariants.{BrokenLeaf}
+use Rattle.std.specs.Option.{MatchOption}
 use Rattle.journal.specs.declared.entry.Entry.{Entry}
 use Rattle.leaves.proofs.PageEntries.{entries_front, entries_last, length_leaves, nth_leaf}
 use Rattle.leaves.proofs.RoundTrip.{reads_back, length_leaf}
@@ -95,3 +98,17 @@ pub first_broken :
 first_broken bs ls n k is (within, broken, before) =
     let h : k < n = omega (arith, within, ap (λ (xs : List (List ℕ)). length xs) is, length_leaves n bs) in
     (h, subst (λ (leaf : List ℕ). IsLeaf leaf → ⊥) (leaf_is bs ls n is k h) (broken []), λ j lt. subst IsLeaf (leaf_is bs ls n is j (omega (arith, lt, h))) (before j [] (omega arith) lt))
+
+-- what the check answers for the place of the first broken leaf, if there is one
+abbrev pub broken_at : Option ℕ → Result (Unit {0}) BookRefusal
+broken_at None = Ok tt
+broken_at (Some k) = Err (BrokenLeaf k)
+
+pub checked_book :
+    (bs : List ℕ) (ls : List (List ℕ)) (o : Option ℕ) → WholeBook bs → ls ≡ first_chunks 160 (length bs / 160) bs
+    → MatchOption o (AllWithin IsLeaf ls 0 (length ls)) (λ k. (k < length ls) × HoldsAt (λ leaf. IsLeaf leaf → ⊥) ls k × AllWithin IsLeaf ls 0 k)
+    → BookChecked bs (broken_at o)
+checked_book bs ls None whole is all = record { whole = whole; leaves = all_leaves bs ls (length bs / 160) is all }
+checked_book bs ls (Some k) whole is broken =
+    let first = first_broken bs ls (length bs / 160) k is broken in
+    (whole, first.0, first.1, first.2)

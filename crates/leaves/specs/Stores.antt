@@ -12,7 +12,7 @@ leaf_entries l = page_entries l.used l.bytes.now
 abbrev pub leaf_size : Leaves → ℕ
 leaf_size l = whole_leaves l.bytes.now
 
--- each leaf in use is the leaf of its entry; so it is in every journal
+-- each leaf in use is the leaf of its entry: what the fact `good` of the type comes to, and so true of every journal in bytes
 abbrev pub GoodLeaves : Leaves → Type 0
 GoodLeaves l = (k : ℕ) → k < leaves_used l.used l.bytes.now → IsLeaf (leaf_at l.bytes.now k)
 

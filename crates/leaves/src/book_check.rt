@@ -45,9 +45,8 @@ pub fn check_book(bytes: &[u8]) -> Result<(), BookRefusal>
     if !rest.is_empty() || leaves.len() > MAX_ENTRIES {
         return Err(BookRefusal::NotWholeLeaves);
     }
-    // A match, since `map_or(Ok(()), ..)` would hide that bytes without a broken leaf are accepted.
-    match leaves.iter().position(|leaf| !is_leaf(leaf)) {
-        Some(k) => Err(BookRefusal::BrokenLeaf(k)),
-        None => Ok(()),
-    }
+    leaves
+        .iter()
+        .position(|leaf| !is_leaf(leaf))
+        .map_or(Ok(()), |k| Err(BookRefusal::BrokenLeaf(k)))
 }

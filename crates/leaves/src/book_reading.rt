@@ -12,14 +12,11 @@ use crate::leaf::{LEAF, count_on, given_on, hand_on, identity_on, pair_on, void_
 use crate::pages::leaves_in;
 use journal::{MAX_ENTRIES, Pair, PostingId, Reading};
 
-// The bytes if they are a closed book, else none of them: a match, so that both cases stand in sight.
+// The bytes if they are a closed book, else none of them.
 fn checked(bytes: &[u8]) -> &[u8]
     ensures { Kept bytes.now result.now }
 {
-    match check_book(bytes) {
-        Ok(()) => bytes,
-        Err(_) => &[],
-    }
+    check_book(bytes).map_or(&[], |()| bytes)
 }
 
 impl<'a> ClosedBook<'a> {
@@ -40,7 +37,8 @@ impl<'a> ClosedBook<'a> {
     }
 }
 
-// The same answers stand in `byte_filing`: a crate may not implement the trait of another for all types with leaves.
+// The same answers stand in `byte_filing`: a crate may not implement the trait of another for all types with leaves, and
+// as a store of `Records` each question would decode the whole leaf.
 impl<'a> Reading for ClosedBook<'a> {
     ghost entries = { book_entries };
 

@@ -42,7 +42,8 @@ impl<'a> Leaves<'a> {
     }
 }
 
-// The same answers stand in `book_reading`: a crate may not implement the trait of another for all types with leaves.
+// The same answers stand in `book_reading`: a crate may not implement the trait of another for all types with leaves, and
+// as a store of `Records` each question would decode the whole leaf.
 impl<'a> Reading for Leaves<'a> {
     ghost entries = { leaf_entries };
 

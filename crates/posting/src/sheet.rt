@@ -32,11 +32,12 @@ pub enum Ending {
 pub struct Draft {
     // Whether the posting read the balance of an account.
     pub reads: [bool; ACCOUNTS],
-    // A void posting gives no account a value.
+    // A void posting gives no account a value. A mark beside the pairs, as in the entry that takes both over.
     pub void: bool,
     // The hand that the posting leaves its house with.
     pub hand: i64,
-    // How many of the pairs count; the others are padding. A length beside fixed memory, as in the entry that takes both over.
+    // How many of the pairs count; the others are padding. A length beside fixed memory, as in the entry. It is in the
+    // contracts and no fact of the type, since anyone may make a draft.
     pub count: u8,
     pub pairs: [Pair; MAX_PAIRS],
 }
@@ -53,7 +54,8 @@ impl Sheet {
         }
     }
 
-    // The value that a read of an account finds: what this posting has written, or else the balance, which joins the reads.
+    // The value that a read of an account finds: what this posting has written, or else the balance, which joins the
+    // reads. A match, since a closure that notes the read would have to say what it leaves.
     pub(crate) fn find<R: Reading>(&mut self, account: u8, balances: &Balances<'_, R>) -> i64
         requires { account ≤ 63 }
         ensures value { result ≡ sought (slice_index_or self.old.written account None) (balances_of R.Reading.entries balances.now account) }
@@ -133,7 +135,7 @@ impl Draft {
         self.count += 1;
     }
 
-    // The record that the draft makes for its posting.
+    // The record that the draft makes for its posting, field by field: an entry holds the posting's parts and no `Draft`.
     fn record_for(&self, posting: PostingId) -> Entry
         ensures { result ≡ entry_for self.now posting.house posting.number }
     {

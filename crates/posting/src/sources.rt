@@ -16,7 +16,8 @@ pub struct Question {
 // A source of postings. Its meaning is told by one record of functions, within the limits that `longest_posting` promises.
 // No question alters anything, and a question out of range is void.
 pub trait Source {
-    // The most lines of a posting, 1 to 16. `longest_posting` answers it, since no clause can cite it at a type with a lifetime.
+    // The most lines of a posting, 1 to 16. `longest_posting` answers it, since no clause can cite it at a type with a
+    // lifetime.
     const LONGEST: usize;
 
     ghost meaning: { Self → Meaning };

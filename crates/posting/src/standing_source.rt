@@ -56,7 +56,8 @@ fn line_order(o: StandingOrder, line: usize, hand: i64) -> Order
     }
 }
 
-// The next hand where a line finds a value.
+// The next hand where a line finds a value; lines by their numbers, as in `line_order`. Hands and values stay `i64`, with
+// their range in the contract, since a source is also asked out of range.
 fn line_found(line: usize, hand: i64, value: i64) -> Option<i64>
     requires { (InRange hand) × (InRange value) }
     ensures { result ≡ line_found line hand value }
