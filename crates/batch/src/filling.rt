@@ -26,7 +26,8 @@ fn keep<T: Copy>(roll: &mut Roll<'_, T>, item: Option<T>)
     }
 }
 
-// The record that a line adds to each table.
+// The record that a line adds to each table, by what is known of the lines before and the item: the two sides of a line,
+// which no struct holds.
 
 fn posting_of(known: &Progress, item: Item) -> Option<Posting>
     ensures { option_to_list result ≡ posting_of known.now.seen known.now.orders item }

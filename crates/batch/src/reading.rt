@@ -16,7 +16,7 @@ pub(crate) fn check(sizes: Sizes, text: &[u8]) -> Result<(), BatchRefusal>
         return Err(BatchRefusal::Size);
     }
     let mut reader = Reader::new(sizes, text);
-    // Counted here and not by an iterator of judged lines, which was tried: it took a third to twice as long on lines `P`.
+    // Counted here and not by an iterator of judged lines, which was tried: lines `P` took a third longer and more.
     let mut line = 0;
     while !reader.rest.is_empty() {
         line += 1;

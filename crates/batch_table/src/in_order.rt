@@ -88,8 +88,7 @@ fn records_in_order(houses: u8, postings: &[Posting], end: usize) -> bool
 fn passes(houses: u8, postings: &[Posting], lines: &[OrderLine]) -> bool
     ensures { result ≡ from_a_batch houses postings.now lines.now }
 {
-    1 <= houses
-        && houses <= MOST_HOUSES
+    (1..=MOST_HOUSES).contains(&houses)
         && records_in_order(houses, postings, lines.len())
         && lines_in_range(lines)
 }

@@ -56,12 +56,12 @@ pub fn balance<R: Reading>(
 ) -> Result<i64, BalanceRefusal>
     ensures { result ≡ balanced (R.Reading.entries journal.now) openings.now account k }
 {
-    if usize::from(account) >= ACCOUNTS {
-        return Err(BalanceRefusal::NoSuchAccount);
-    }
+    let opening = openings
+        .get(usize::from(account))
+        .copied()
+        .ok_or(BalanceRefusal::NoSuchAccount)?;
     if k > journal.length() {
         return Err(BalanceRefusal::PastTheEnd);
     }
-    let opening = openings[usize::from(account)];
     Ok(last_given(journal, account, k).map_or(opening, |given| given.value))
 }

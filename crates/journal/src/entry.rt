@@ -47,7 +47,7 @@ pub struct Entry {
 }
 
 impl Entry {
-    // Which posting it is of.
+    // Which posting it is of, field by field: a record has both as fields of its own.
     pub fn id(&self) -> PostingId
         ensures { result ≡ id_of (posted self.now) }
     {
@@ -88,7 +88,7 @@ pub fn in_range(cents: i64) -> bool
 fn pair_fits(pair: &Pair, least: u8) -> bool
     ensures { result ≡ fits least pair.now }
 {
-    least <= pair.account && pair.account <= LAST_ACCOUNT && in_range(pair.value)
+    (least..=LAST_ACCOUNT).contains(&pair.account) && in_range(pair.value)
 }
 
 // Each pair is tested against the one before it. A loop says that plainer than a fold that stops, and `is_sorted_by` would
@@ -114,8 +114,7 @@ fn passes(e: &Entry) -> bool
         return false;
     };
     e.house <= LAST_HOUSE
-        && 1 <= e.number
-        && e.number <= LAST_NUMBER
+        && (1..=LAST_NUMBER).contains(&e.number)
         && in_range(e.hand)
         && (!e.void || pairs.is_empty())
         && pairs_rise(pairs)

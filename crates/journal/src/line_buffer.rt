@@ -8,7 +8,8 @@ use crate::entry::{Pair, PostingId};
 use itoa::{Buffer, Integer};
 
 // Bytes inside the slice are stored, and those past its end only counted, so over no bytes at all a line is measured.
-// `at` is the place after the last byte, and stops at the greatest `usize`, which no slice reaches.
+// `at` is the place after the last byte, and stops at the greatest `usize`, which no slice reaches. The bytes are the
+// caller's, so the place stands beside them.
 #[derive(Drop)]
 pub(crate) struct LineBuffer<'a> {
     pub(crate) out: &'a mut [u8],
@@ -27,6 +28,7 @@ impl<'a> LineBuffer<'a> {
     pub(crate) fn put(&mut self, byte: u8)
         ensures { Wrote (byte ∷ []) self.old self.new }
     {
+        // A test and an index: with `get_mut` the proof of what the bytes hold afterwards did not close.
         if self.at < self.out.len() {
             self.out[self.at] = byte;
         }
@@ -41,6 +43,7 @@ impl<'a> LineBuffer<'a> {
         }
     }
 
+    // Not by `write!`: what is promised of it says nothing where it answers an error, and a line that has room must be put.
     fn put_number<N: Integer>(&mut self, number: N)
         ensures { Wrote (N.text number) self.old self.new }
     {

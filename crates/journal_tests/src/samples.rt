@@ -187,13 +187,9 @@ fn head_of<R: Reading>(reading: &R, k: usize) -> Head {
 // Every question about entry `k` has this entry's answer.
 pub(crate) fn reads_back<R: Reading>(rt: &impl Abort, reading: &R, k: usize, e: &Entry) {
     let pairs = e.counted_pairs();
-    let id = PostingId {
-        house: e.house,
-        number: e.number,
-    };
     assert_eq!(rt;
         head_of(reading, k),
-        (Some(id), Some(e.void), Some(e.hand), Some(pairs.len()))
+        (Some(e.id()), Some(e.void), Some(e.hand), Some(pairs.len()))
     );
     reads_pairs(rt, reading, k, pairs);
 }

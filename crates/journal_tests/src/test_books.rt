@@ -95,10 +95,8 @@ fn file_four(rt: &impl Abort, bytes: &mut [u8]) {
 
 // The number of the refusal, or 0, and the broken leaf.
 fn told(bytes: &[u8]) -> (u8, usize) {
-    match check_book(bytes) {
-        Ok(()) => (0, 0),
-        Err(refusal) => (refusal.into(), refusal.leaf()),
-    }
+    let refusal = check_book(bytes).err();
+    refusal.map_or((0, 0), |refusal| (refusal.into(), refusal.leaf()))
 }
 
 // The length and the size of the book opened on these bytes.

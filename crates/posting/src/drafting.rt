@@ -64,6 +64,7 @@ pub fn draft<S: Source, R: Reading>(
     };
     let mut sheet = Sheet::blank(start);
     let lines = source.longest_posting();
+    // A loop, since a closure that works on the sheet would need a contract over its states.
     for line in 0..lines {
         match work_line(source, &balances, posting, line, &mut sheet) {
             Continue(()) => {}

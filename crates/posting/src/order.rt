@@ -7,6 +7,7 @@ use journal::in_range;
 
 // Accounts are numbered from 0 to 63. Values and the hand, which is the value that a house carries from line to line
 // and from posting to posting, are whole cents within 10^15 of 0.
+// The ranges stand in contracts and are no fact of the type, since anyone may write an order.
 #[derive(Clone, Copy, Debug, PartialEq, Eq)]
 pub enum Order {
     // Find the value of an account; the source then tells the next hand.

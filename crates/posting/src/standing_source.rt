@@ -34,7 +34,7 @@ fn line_order(o: StandingOrder, line: usize, hand: i64) -> Order
     ensures value { result ≡ line_order o line hand }
     ensures kept { OrderKept result }
 {
-    // To every source a line is a number, and this match is what each of them means here.
+    // A match, since every source is asked for a line by its number, and a table would make all five orders for each.
     match line {
         0 => Order::Read { account: o.from },
         1 => {

@@ -60,6 +60,7 @@ impl<'a, T: Copy> Roll<'a, T> {
         ensures capacity { capacity_of self.new ≡ capacity_of self.old }
         ensures lender { self.new.cells.ghost_name ≡ self.old.cells.ghost_name }
     {
+        // A test and an index: with `get_mut` the proof of what the cells hold afterwards did not close.
         if self.used >= self.cells.len() {
             return Err(Full);
         }
