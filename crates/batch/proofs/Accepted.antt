@@ -235,6 +235,27 @@ begun_comma t s (c ∷ d ∷ cs) rest l e r = subst (λ x. Begun t s (c ∷ x �
     go true y h = refl
     go false y h = ap (λ (b : Bool). cond b ([] ∷ [] ∷ fields (first_line cs)) ((c ∷ []) ∷ fields (first_line cs))) h
 
+pub begun_feed : (t : Sizes) (s : Progress) (text rest : List ℕ) → 1 < length text → get_or text 1 0 ≡ 10 → rest ≡ drop 2 text
+    → Begun t s text (get_or text 0 0) [] rest
+begun_feed t s [] rest l e r = absurd (omega arith)
+begun_feed t s (c ∷ []) rest l e r = absurd (omega arith)
+begun_feed t s (c ∷ d ∷ cs) rest l e r = subst (λ x. Begun t s (c ∷ x ∷ cs) c [] rest) (sym e)
+    (subst (λ x. Begun t s (c ∷ 10 ∷ cs) c [] x) (sym r)
+    (begun_by t s c (c ∷ 10 ∷ cs) [] cs (go (eqb c 10) (eqb c 44) refl) (λ h. ap (λ (b : Bool). cond b (10 ∷ cs) cs) h)))
+  where
+    go : (x y : Bool) → eqb c 44 ≡ y → fields (cond x [] (c ∷ [])) ≡ cond x ([] ∷ []) (cond y ([] ∷ [] ∷ []) ((c ∷ []) ∷ []))
+    go true y h = refl
+    go false y h = ap (λ (b : Bool). cond b ([] ∷ [] ∷ []) ((c ∷ []) ∷ [])) h
+
+pub begun_alone : (t : Sizes) (s : Progress) (text : List ℕ) → length text ≡ 1 → Begun t s text (get_or text 0 0) [] []
+begun_alone t s [] l = absurd (omega arith)
+begun_alone t s (c ∷ []) l = begun_by t s c (c ∷ []) [] [] (go (eqb c 10) (eqb c 44) refl) (λ h. ap (λ (b : Bool). cond b [] []) h)
+  where
+    go : (x y : Bool) → eqb c 44 ≡ y → fields (cond x [] (c ∷ [])) ≡ cond x ([] ∷ []) (cond y ([] ∷ [] ∷ []) ((c ∷ []) ∷ []))
+    go true y h = refl
+    go false y h = ap (λ (b : Bool). cond b ([] ∷ [] ∷ []) ((c ∷ []) ∷ [])) h
+begun_alone t s (c ∷ d ∷ cs) l = absurd (omega arith)
+
 -- a line is judged by its letter and what it goes on with
 pub judged_line : (t : Sizes) (s : Progress) (text : List ℕ) (letter : ℕ) (next : Next) (r : Result Judged Fault) → Begun t s text letter (fields_in next) (after_in next)
     → JudgesLine t s letter next r → Judges t s text r

@@ -13,9 +13,7 @@ use Rattle.batch.specs.declared.progress.Progress.{Progress}
 use Rattle.batch.specs.declared.progress.Sizes.{Sizes}
 use Rattle.batch.specs.Parts.{lines, fields, first_line, after_line}
 use Rattle.batch.specs.Progress.{sofar, entered}
-use Rattle.batch.specs.Reading.{said, closes, ended, batch_of_any_length, batch, answered}
-use Rattle.batch.specs.declared.judging.Judged.{Judged}
-use Rattle.batch.specs.Judging.{Judges}
+use Rattle.batch.specs.Reading.{said, closes, ended, batch_of_any_length, batch}
 use Rattle.batch.specs.Refusals.{refusal_at}
 use Rattle.batch.specs.Rules.{judged}
 use Rattle.batch.specs.Tables.{seen_in, postings_in, orders_in, runs_in, posting_of}
@@ -135,13 +133,3 @@ ends_open text b h e t k =
     let z : true ≡ false = sym g ∙ f in
     let n : ◌≡◌ {A = ℕ} 0 1 = cc in
     omega arith
-
--- the answer to a line that is refused
-pub told_refused : (t : Sizes) (k : Progress) (past : List Item) (text rest : List ℕ) (line : ℕ) (r : Result Judged Fault) (m : Result Judged BatchRefusal) (e : BatchRefusal)
-    → 0 < length text → length text ≤ 32768 → said t past (lines rest) ≡ said t [] (lines text) → k ≡ sofar past → 0 < length rest → line ≡ length past + 1 → Judges t k rest r
-    → ((j : Judged) → r ≡ Ok j → m ≡ Ok j) → ((f : Fault) → r ≡ Err f → m ≡ Err (refusal_at line f)) → m ≡ Err e
-    → ◌≡◌ {A = Result (Unit {0}) BatchRefusal} (Err e) (answered (batch t text))
-told_refused t k past text rest line (Ok j) m e a b w h n l d ok err q = absurd (let x : Ok j ≡ Err e = sym (ok j refl) ∙ q in let z : ◌≡◌ {A = ℕ} 0 1 = cc in omega arith)
-told_refused t k past text rest line (Err f) m e a b w h n l d ok err q =
-    let same : e ≡ refusal_at line f = let x : ◌≡◌ {A = Result Judged BatchRefusal} (Err e) (Err (refusal_at line f)) = sym q ∙ err f refl in cc in
-    ap Err (same ∙ ap (λ x. refusal_at x f) l) ∙ sym (ap answered (batch_refused t k past text rest f a b w h n d))

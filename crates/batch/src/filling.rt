@@ -1,6 +1,5 @@
 // The reader: a text that is accepted fills the plan and the tables.
-ghost use Rattle.std.specs.Prelude.{◌≡◌, ℕ, ◌<◌, length, Ok};
-ghost use Rattle.std.specs.Option.{option_to_list};
+ghost use Rattle.std.specs.Prelude.{◌≡◌, ℕ, ◌<◌, [], ◌∷◌, length, Ok};
 ghost use Rattle.roll.specs.Rolls.{items, capacity_of};
 ghost use Rattle.batch.specs.Limits.{Allowed};
 ghost use Rattle.batch.specs.Plans.{terms, plan_after};
@@ -16,47 +15,12 @@ use crate::reading::check;
 use crate::records::{OrderLine, Posting, Run};
 use roll::Roll;
 
-// One more record, if there is one.
-fn keep<T: Copy>(roll: &mut Roll<'_, T>, item: Option<T>)
-    requires { 0 < length (option_to_list item) → length (items roll.old) < capacity_of roll.old }
-    ensures { Grown (option_to_list item) roll.old roll.new }
+// One more record.
+fn keep<T: Copy>(roll: &mut Roll<'_, T>, item: T)
+    requires { length (items roll.old) < capacity_of roll.old }
+    ensures { Grown (item ∷ []) roll.old roll.new }
 {
-    if let Some(x) = item {
-        let _ = roll.push(x);
-    }
-}
-
-// The record that a line adds to each table, by what is known of the lines before and the item: the two sides of a line,
-// which no struct holds.
-
-fn posting_of(known: &Progress, item: Item) -> Option<Posting>
-    ensures { option_to_list result ≡ posting_of known.now.seen known.now.orders item }
-{
-    match item {
-        Item::Posts => Some(Posting {
-            house: known.seen.saturating_sub(1),
-            first: known.orders,
-        }),
-        _ => None,
-    }
-}
-
-fn order_of(item: Item) -> Option<OrderLine>
-    ensures { option_to_list result ≡ order_of item }
-{
-    match item {
-        Item::Orders(order) => Some(order),
-        _ => None,
-    }
-}
-
-fn run_of(item: Item) -> Option<Run>
-    ensures { option_to_list result ≡ run_of item }
-{
-    match item {
-        Item::Runs(run) => Some(run),
-        _ => None,
-    }
+    let _ = roll.push(item);
 }
 
 // One more line into the tables, which have room for it. The rolls go one by one: a struct of the three was tried in three
@@ -77,9 +41,18 @@ fn put(
     ensures lines { Grown (order_of item) lines.old lines.new }
     ensures runs { Grown (run_of item) runs.old runs.new }
 {
-    keep(postings, posting_of(known, item));
-    keep(lines, order_of(item));
-    keep(runs, run_of(item));
+    match item {
+        Item::Posts => keep(
+            postings,
+            Posting {
+                house: known.seen.saturating_sub(1),
+                first: known.orders,
+            },
+        ),
+        Item::Orders(order) => keep(lines, order),
+        Item::Runs(run) => keep(runs, run),
+        _ => {}
+    }
 }
 
 // Fills the plan and the tables from a text that was accepted.

@@ -1,6 +1,7 @@
 // The tests of one line.
-ghost use Rattle.std.specs.Prelude.{◌≡◌, ◌+◌, [], ◌∷◌, Ok, Err, MatchOption};
+ghost use Rattle.std.specs.Prelude.{◌≡◌, ◌+◌, [], ◌∷◌, Some, Ok, Err, MatchOption, MatchResult};
 ghost use Rattle.batch.specs.declared.items.Fault.TheVariants.{Form};
+ghost use Rattle.batch.specs.declared.items.Item.TheVariants.{Posts};
 ghost use Rattle.batch.specs.Marks.{letter_mark, field_count, stands as stands_in};
 ghost use Rattle.batch.specs.Progress.{start, entered};
 ghost use Rattle.batch.specs.Rules.{account_in, begins as begins_in, opens as opens_in, keeps as keeps_in, worker_in, order_in, orders as orders_in, runs as runs_in, said_by as said_in, room_for, tested as tested_in, seated as seated_in};
@@ -71,16 +72,27 @@ fn account_in(field: &[u8]) -> Option<u8>
     natural(field, 0, 63).map(|account| account as u8)
 }
 
+// One place reads the accounts of all kinds and one the cents: with a place for each kind such lines take longer.
 fn order_in(kind: Kind, field: &[u8]) -> Option<OrderLine>
     ensures { result ≡ order_in kind field.now }
 {
     Some(match kind {
-        Kind::Take => OrderLine::Take(account_in(field)?),
-        Kind::Join => OrderLine::Join(account_in(field)?),
-        Kind::Set => OrderLine::Set(cents(field)?),
-        Kind::Raise => OrderLine::Raise(cents(field)?),
-        Kind::Need => OrderLine::Need(cents(field)?),
-        Kind::Write => OrderLine::Write(account_in(field)?),
+        Kind::Take | Kind::Join | Kind::Write => {
+            let account = account_in(field)?;
+            match kind {
+                Kind::Take => OrderLine::Take(account),
+                Kind::Join => OrderLine::Join(account),
+                _ => OrderLine::Write(account),
+            }
+        }
+        Kind::Set | Kind::Raise | Kind::Need => {
+            let cents = cents(field)?;
+            match kind {
+                Kind::Set => OrderLine::Set(cents),
+                Kind::Raise => OrderLine::Raise(cents),
+                _ => OrderLine::Need(cents),
+            }
+        }
     })
 }
 
@@ -148,7 +160,12 @@ impl<'a> Reader<'a> {
     fn seated(&self, item: Item) -> Result<Item, Fault>
         ensures { result ≡ seated_in self.now.sizes self.now.known (Ok item) }
     {
-        self.has_room(item).then_some(item).ok_or(Fault::Room)
+        // An `if`, since by `then_some` and `ok_or` lines take longer.
+        if self.has_room(item) {
+            Ok(item)
+        } else {
+            Err(Fault::Room)
+        }
     }
 
     fn worker_in(&self, field: &[u8]) -> Option<u8>
@@ -190,10 +207,11 @@ impl<'a> Reader<'a> {
         }))
     }
 
-    // What the fields after the mark say, by the mark's rule.
+    // What the fields after the mark say, by the mark's rule, if there is room for it. Room is tested in the arms: after
+    // the match the items would be told apart again.
     fn said_by(&self, mark: Mark, fields: &Fields<'_>) -> Result<Item, Fault>
         requires { field_total fields.now + 1 ≡ field_count mark }
-        ensures { result ≡ said_in self.now.known mark (first_in fields.now) (second_in fields.now) (third_in fields.now) }
+        ensures { result ≡ seated_in self.now.sizes self.now.known (said_in self.now.known mark (first_in fields.now) (second_in fields.now) (third_in fields.now)) }
     {
         match (mark, fields) {
             (Mark::Begin, Fields::Three(houses, workers, patience)) => begins(
@@ -201,66 +219,72 @@ impl<'a> Reader<'a> {
             ),
             (Mark::Opening, Fields::Two(account, value)) => self.opens(account, value),
             (Mark::House, Fields::Two(house, keeper)) => self.keeps(house, keeper),
-            (Mark::Posting, Fields::Zero) => Ok(Item::Posts),
-            (Mark::Order(kind), Fields::One(field)) => orders(kind, field),
-            (Mark::Run, Fields::Two(worker, count)) => self.runs(worker, count),
+            (Mark::Posting, Fields::Zero) => self.seated(Item::Posts),
+            (Mark::Order(kind), Fields::One(field)) => self.seated(orders(kind, field)?),
+            (Mark::Run, Fields::Two(worker, count)) => self.seated(self.runs(worker, count)?),
             // The count was tested, so that no other pair comes here, as the check has to prove.
             _ => unreachable!(),
         }
     }
 
-    // What a line of this letter and these fields says.
-    fn tested(&self, letter: u8, fields: &Fields<'_>) -> Result<Item, Fault>
-        ensures { result ≡ tested_in self.now.sizes self.now.known (field_total fields.now + 1) (letter_mark letter) (first_in fields.now) (second_in fields.now) (third_in fields.now) }
+    // What a line of this mark and these fields says.
+    fn tested(&self, mark: Mark, fields: &Fields<'_>) -> Result<Item, Fault>
+        ensures { result ≡ tested_in self.now.sizes self.now.known (field_total fields.now + 1) (Some mark) (first_in fields.now) (second_in fields.now) (third_in fields.now) }
     {
-        let mark = Mark::try_from(letter as char)?;
         if fields.count() + 1 != mark.field_count() {
             return Err(Fault::Form);
         }
         if !self.stands(mark) {
             return Err(Fault::Place);
         }
-        let item = self.said_by(mark, fields)?;
-        self.seated(item)
+        self.said_by(mark, fields)
     }
 
-    // What a line `P` says, seen by its two bytes: without this quick way the reading of such lines takes half as long
-    // again and more.
-    fn posts(&self) -> Result<Item, Fault>
-        ensures { result ≡ tested_in self.now.sizes self.now.known 1 (letter_mark 80) [] [] [] }
+    // Whether a line `P` may stand here and has room.
+    fn posts(&self) -> Result<(), Fault>
+        ensures { MatchResult result (λ u. tested_in self.now.sizes self.now.known 1 (letter_mark 80) [] [] [] ≡ Ok Posts) (λ f. tested_in self.now.sizes self.now.known 1 (letter_mark 80) [] [] [] ≡ Err f) }
     {
         if !self.stands(Mark::Posting) {
             return Err(Fault::Place);
         }
-        self.seated(Item::Posts)
+        if !self.has_room(Item::Posts) {
+            return Err(Fault::Room);
+        }
+        Ok(())
     }
 
     // What a line of this letter says that goes on with this.
     fn judge_line(&self, letter: u8, next: Next<'a>) -> Result<Judged<'a>, Fault>
         ensures { JudgesLine self.now.sizes self.now.known letter next.entry result }
     {
+        let mark = Mark::try_from(letter as char)?;
         let line = line_from(next);
-        let item = self.tested(letter, &line.fields)?;
+        let item = self.tested(mark, &line.fields)?;
         Ok(Judged {
             item,
             rest: line.rest,
         })
     }
 
-    // What the first line of the text that is left says.
+    // What the first line of the text that is left says. A line `P` is seen by its two bytes: without this quick way the
+    // reading of such lines takes half as long again and more.
     pub(crate) fn judge(&self) -> Result<Judged<'a>, Fault>
         ensures { Judges self.now.sizes self.now.known self.now.rest.now result }
     {
         if let [b'P', b'\n', rest @ ..] = self.rest {
-            let item = self.posts()?;
-            return Ok(Judged { item, rest });
+            self.posts()?;
+            return Ok(Judged {
+                item: Item::Posts,
+                rest,
+            });
         }
-        match self.rest {
-            [letter, b',', rest @ ..] => self.judge_line(*letter, Next::Field(rest)),
-            [letter, b'\n', rest @ ..] => self.judge_line(*letter, Next::Line(rest)),
-            [letter] => self.judge_line(*letter, Next::Line(&[])),
-            _ => Err(Fault::Form),
-        }
+        let (letter, next) = match self.rest {
+            [letter, b',', rest @ ..] => (*letter, Next::Field(rest)),
+            [letter, b'\n', rest @ ..] => (*letter, Next::Line(rest)),
+            [letter] => (*letter, Next::Line(&[])),
+            _ => return Err(Fault::Form),
+        };
+        self.judge_line(letter, next)
     }
 
     // Past a line that was accepted.
@@ -271,6 +295,7 @@ impl<'a> Reader<'a> {
         ensures rest { self.new.rest.now ≡ judged.entry.rest.now }
     {
         self.known.enter(judged.item, self.sizes);
-        self.rest = judged.rest;
+        // Sliced anew, so that its address and its length are read one by one, as they were stored.
+        self.rest = &judged.rest[..];
     }
 }

@@ -9,8 +9,10 @@ use journal::MOST_CENTS;
 fn decimal_in(field: &[u8]) -> Option<u64>
     ensures { Decimal field.now result }
 {
-    if let [] | [b'0', _, ..] = field {
-        return None;
+    match field {
+        [] => return None,
+        [b'0', _, ..] => return None,
+        _ => {}
     }
     let mut n: u64 = 0;
     for c in field {

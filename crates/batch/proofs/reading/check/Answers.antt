@@ -1,14 +1,12 @@
-use Rattle.std.proofs.Common.{◌≡◌, ◌+◌, ◌<◌, ◌≤◌, Bool, cond, ◌∷◌, [], length, Ok, Err, refl, sym, ap, ◌∙◌, subst, arith, rules, false-eqb}
-use Rattle.batch.specs.declared.items.Fault.{Fault}
+use Rattle.std.proofs.Common.{◌≡◌, ◌+◌, ◌<◌, ◌≤◌, Bool, cond, ◌∷◌, [], length, Ok, Err, refl, sym, ap, ◌∙◌, arith, rules, false-eqb}
 use Rattle.batch.specs.declared.items.BatchRefusal.TheVariants.{End}
-use Rattle.batch.specs.declared.judging.Judged.{Judged}
-use Rattle.batch.specs.Judging.{Judges, Accepts}
+use Rattle.batch.specs.Judging.{Accepts}
 use Rattle.batch.specs.Parts.{lines, fields, first_line}
 use Rattle.batch.specs.Rules.{judged}
 use Rattle.batch.specs.Reading.{answered, said}
 use Rattle.batch.specs.Refusals.{refusal_at}
 use Rattle.batch.proofs.Cuts.{after_less}
-use Rattle.batch.proofs.Said.{known_more, step_ok, told_refused, batch_ended, closes_open, closes_missing, closes_well, ends_feed, ends_open}
+use Rattle.batch.proofs.Said.{known_more, step_ok, batch_refused, batch_ended, closes_open, closes_missing, closes_well, ends_feed, ends_open}
 use Rattle.batch.proofs.reading.check.Goals.{then-not-ends_with-via-then-not-ends_with, then-not-ends_with-via-else-not-ends_with+then-reader}
 use Rattle.batch.proofs.reading.check.Goals as goal
 
@@ -17,33 +15,32 @@ loop-line-init c =
     let e = c.new-reader.ensures in
     ([], e.sizes, e.known, refl, ap (λ l. said c.args.sizes [] (lines l)) e.rest, omega (arith, ap length e.rest))
 
-pub returns-in_err-judged : goal.returns-in_err-judged
-returns-in_err-judged c =
+pub returns-in-Err : goal.returns-in-Err
+returns-in-Err c =
     let i = c.loop-line.invariant in
     let reader = c.loop-line.reader in
+    let f = c.in-Err.fault in
     let some : 0 < length c.args.text.now = search rules in
     let more : 0 < length reader.rest.now = search rules in
-    let ok : (j : Judged) → c.judge.result ≡ Ok j → c.map_err.result ≡ Ok j = λ j h. search rules in
-    let err : (f : Fault) → c.judge.result ≡ Err f → c.map_err.result ≡ Err (refusal_at (c.loop-line.line + 1) f) = λ f h. search rules in
-    let judges : Judges c.args.sizes reader.known reader.rest.now c.judge.result = subst (λ t. Judges t reader.known reader.rest.now c.judge.result) i.1 c.judge.ensures in
-    let last : c.from_residual.result ≡ Err c.in_err-judged.field-0.0 = search rules in
-    last ∙ told_refused c.args.sizes reader.known i.0 c.args.text.now reader.rest.now (c.loop-line.line + 1) c.judge.result c.map_err.result c.in_err-judged.field-0.0
-    some (omega arith) i.4 i.2 more (omega arith) judges ok err c.in_err-judged.was
+    let n : c.loop-line.line + 1 ≡ length i.0 + 1 = omega (arith, i.3) in
+    let refused : judged c.args.sizes reader.known (fields (first_line reader.rest.now)) ≡ Err f = ap (λ t. judged t reader.known (fields (first_line reader.rest.now))) (sym i.1) ∙ c.in-Err.ensures in
+    ap Err (c.at.ensures ∙ ap (λ k. refusal_at k f) n)
+    ∙ sym (ap answered (batch_refused c.args.sizes reader.known i.0 c.args.text.now reader.rest.now f some (omega arith) i.4 i.2 more refused))
 
 pub loop-line-smaller : goal.loop-line-smaller
 loop-line-smaller c =
     let reader = c.loop-line.reader in
     let more : 0 < length reader.rest.now = omega (arith, false-eqb (length reader.rest.now) 0 c.loop-line-test.ensures) in
-    let a : Accepts reader.sizes reader.known reader.rest.now c.in_ok-judged.judged = search rules in
+    let a : Accepts reader.sizes reader.known reader.rest.now c.in-Ok.judged = search rules in
     omega (arith, ap length (c.enter.ensures.rest ∙ a.rest), after_less reader.rest.now more)
 
 pub loop-line-preserved : goal.loop-line-preserved
 loop-line-preserved c =
     let i = c.loop-line.invariant in
     let reader = c.loop-line.reader in
-    let item = c.in_ok-judged.judged.item in
+    let item = c.in-Ok.judged.item in
     let more : 0 < length reader.rest.now = omega (arith, false-eqb (length reader.rest.now) 0 c.loop-line-test.ensures) in
-    let a : Accepts reader.sizes reader.known reader.rest.now c.in_ok-judged.judged = search rules in
+    let a : Accepts reader.sizes reader.known reader.rest.now c.in-Ok.judged = search rules in
     let said : judged c.args.sizes reader.known (fields (first_line reader.rest.now)) ≡ Ok item = ap (λ t. judged t reader.known (fields (first_line reader.rest.now))) (sym i.1) ∙ a.item in
     let rest = c.enter.ensures.rest ∙ a.rest in (
       item ∷ i.0,
