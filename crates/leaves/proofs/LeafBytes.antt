@@ -1,13 +1,13 @@
 -- The bytes of a leaf as they are written, part by part.
-use Rattle.std.proofs.Common.{◌≡◌, ℕ, zero, suc, ◌+◌, ◌-◌, ◌*◌, ◌≤◌, ◌<◌, Bool, true, false, List, [], ◌∷◌, ◌++◌, length, cond, get_or, drop, set, map, replicate, sym, refl, ap, ◌∙◌, arith}
+use Rattle.std.proofs.Common.{◌≡◌, ℕ, zero, suc, ◌+◌, ◌-◌, ◌*◌, ◌≤◌, ◌<◌, Bool, true, false, List, [], ◌∷◌, ◌++◌, length, cond, take, drop, set, map, replicate, sym, refl, ap, ◌∙◌, arith}
+use Rattle.std.proofs.Math.Seq.{set-append_seam}
 use mir.Val.{bool_byte}
 use borrow.Rule.Slice.PartMut.{put_mid}
-use Rattle.std.specs.List.{flat_map, slice_get}
-use Rattle.std.specs.Option.{option_map_or}
-use Rattle.std.proofs.lemmas.List.{append_assoc, append-nil, length-append, take_at, drop_at, length-map, replicate-append-replicate}
+use Rattle.std.specs.List.{flat_map}
+use Rattle.std.proofs.lemmas.List.{append_assoc, append-nil, length-append, take_at, drop_at, length-map, length-take-le, map_more, replicate-append-replicate}
 use Rattle.std.proofs.lemmas.List.Folds.{flat_map-map}
 use Rattle.std.proofs.lemmas.Grind.{flat_map-append}
-use Rattle.journal.specs.Entries.{Posted}
+use Rattle.journal.specs.Entries.{Posted, pair_at}
 use Rattle.leaves.specs.Leaf.{bytes32, signed_bytes, padded, account_bytes, value_bytes, head_of, leaf_of}
 use Rattle.journal.specs.declared.entry.Pair.{Pair}
 use Rattle.leaves.proofs.RoundTrip.{accounts_whole, length_values}
@@ -47,31 +47,28 @@ leaf_written e v nb hb ps accounts values ev en eh is few ea es =
     ∙ ap (λ (xs : List ℕ). head_of e ++ (padded 16 (account_bytes ps) ++ xs)) es
     ∙ ap (λ (qs : List Pair). head_of e ++ (padded 16 (account_bytes qs) ++ padded 128 (value_bytes qs))) is
 
--- places that hold what is told of each pair, and then padding
-places :
-    {X : Type 0} (f : Pair → X) (pad d : X) (n : ℕ) (ps : List Pair) (ys : List X) → length ys ≡ n → length ps ≤ n
-    → ((k : ℕ) → k < n → get_or ys k d ≡ option_map_or f (slice_get ps k) pad) → ys ≡ map f ps ++ replicate (n - length ps) pad
-places {X} f pad d zero [] [] l few each = refl
-places {X} f pad d zero (p ∷ ps) ys l few each = absurd (omega (arith, few))
-places {X} f pad d zero [] (y ∷ ys) l few each = absurd (omega (arith, l))
-places {X} f pad d (suc n) ps [] l few each = absurd (omega (arith, l))
-places {X} f pad d (suc n) [] (y ∷ ys) l few each =
-    let rest : ys ≡ replicate n pad = places f pad d n [] ys (omega (arith, l)) (omega arith) (λ k lt. each (suc k) (omega arith)) ∙ ap (λ (m : ℕ). replicate m pad) {x = n - 0} {y = n} (omega arith) in
-    ap (λ (x : X). x ∷ ys) (each 0 (omega arith))
-    ∙ ap (λ (xs : List X). pad ∷ xs) rest
-    ∙ ap (λ (m : ℕ). replicate m pad) {x = suc n} {y = suc n - 0} (omega arith)
-places {X} f pad d (suc n) (p ∷ ps) (y ∷ ys) l few each =
-    let fewer : n - length ps ≡ suc n - suc (length ps) = omega arith in
-    ap (λ (x : X). x ∷ ys) (each 0 (omega arith))
-    ∙ ap (λ (xs : List X). f p ∷ xs) (places f pad d n ps ys (omega (arith, l)) (omega (arith, few)) (λ k lt. each (suc k) (omega arith)))
-    ∙ ap (λ (m : ℕ). f p ∷ (map f ps ++ replicate m pad)) fewer
+-- sixteen places that hold what is told of each pair, and then padding
+abbrev pub filled : {X : Type 0} → (Pair → X) → X → List Pair → List X
+filled f pad ps = map f ps ++ replicate (16 - length ps) pad
 
-pub account_places_lem :
-    (ps : List Pair) (ys : List ℕ) → length ys ≡ 16 → length ps ≤ 16
-    → ((k : ℕ) → k < 16 → get_or ys k 0 ≡ option_map_or (λ (p : Pair). p.account) (slice_get ps k) 0) → ys ≡ padded 16 (account_bytes ps)
-account_places_lem ps ys l few each =
-    places (λ (p : Pair). p.account) 0 0 16 ps ys l few each
-    ∙ ap (λ (m : ℕ). account_bytes ps ++ replicate (16 - m) 0) (sym (length-map ps (λ (p : Pair). p.account)))
+-- one place more is filled
+pub filled_more : {X : Type 0} (f : Pair → X) (pad : X) (ps : List Pair) (j : ℕ) (x : X) → j < length ps → length ps ≤ 16 → x ≡ f (pair_at ps j) → set (filled f pad (take j ps)) j x ≡ filled f pad (take (j + 1) ps)
+filled_more {X} f pad ps j x lt few is =
+    let front = map f (take j ps) in
+    let count : length (take j ps) ≡ j = length-take-le j ps (omega arith) in
+    let next : length (take (j + 1) ps) ≡ j + 1 = length-take-le (j + 1) ps (omega arith) in
+    let one : 16 - length (take j ps) ≡ suc (16 - length (take (j + 1) ps)) = omega (arith, count, next) in
+    let rest = replicate (16 - length (take (j + 1) ps)) pad in
+    let place : j ≡ length front = sym (length-map (take j ps) f ∙ count) in
+    ap (λ (k : ℕ). set (front ++ replicate k pad) j x) one
+    ∙ ap (λ (k : ℕ). set (front ++ pad ∷ rest) k x) place
+    ∙ set-append_seam front pad rest x
+    ∙ ap (λ (y : X). front ++ y ∷ rest) is
+    ∙ sym (append_assoc front (f (pair_at ps j) ∷ []) rest)
+    ∙ ap (λ (xs : List X). xs ++ rest) (sym (map_more f ps j _ lt))
+
+pub filled_accounts : (ps : List Pair) → filled (λ (p : Pair). p.account) 0 ps ≡ padded 16 (account_bytes ps)
+filled_accounts ps = ap (λ (n : ℕ). account_bytes ps ++ replicate (16 - n) 0) (sym (length-map ps (λ (p : Pair). p.account)))
 
 zeros : (n : ℕ) → flat_map (λ (bs : List ℕ). bs) (replicate n (replicate 8 0)) ≡ replicate (8 * n) 0
 zeros zero = refl
@@ -79,14 +76,11 @@ zeros (suc n) =
     let more : 8 + 8 * n ≡ 8 * suc n = omega arith in
     ap (λ (xs : List ℕ). replicate 8 0 ++ xs) (zeros n) ∙ replicate-append-replicate 8 (8 * n) 0 ∙ ap (λ (m : ℕ). replicate {A = ℕ} m 0) more
 
-pub value_places_lem :
-    (ps : List Pair) (ys : List (List ℕ)) → length ys ≡ 16 → length ps ≤ 16
-    → ((k : ℕ) → k < 16 → get_or ys k [] ≡ option_map_or (λ (p : Pair). signed_bytes p.value) (slice_get ps k) (replicate 8 0))
-    → flat_map (λ (bs : List ℕ). bs) ys ≡ padded 128 (value_bytes ps)
-value_places_lem ps ys l few each =
+pub filled_values :
+    (ps : List Pair) → length ps ≤ 16 → flat_map (λ (bs : List ℕ). bs) (filled (λ (p : Pair). signed_bytes p.value) (replicate 8 0) ps) ≡ padded 128 (value_bytes ps)
+filled_values ps few =
     let f : Pair → List ℕ = λ p. signed_bytes p.value in
     let rest : 8 * (16 - length ps) ≡ 128 - length (value_bytes ps) = omega (arith, length_values ps) in
-    ap (flat_map (λ (bs : List ℕ). bs)) (places f (replicate 8 0) [] 16 ps ys l few each)
-    ∙ flat_map-append (λ (bs : List ℕ). bs) (map f ps) (replicate (16 - length ps) (replicate 8 0))
+    flat_map-append (λ (bs : List ℕ). bs) (map f ps) (replicate (16 - length ps) (replicate 8 0))
     ∙ ap (λ (xs : List ℕ). xs ++ flat_map (λ (bs : List ℕ). bs) (replicate (16 - length ps) (replicate 8 0))) (flat_map-map (λ (bs : List ℕ). bs) f ps)
     ∙ ap (λ (xs : List ℕ). value_bytes ps ++ xs) (zeros (16 - length ps) ∙ ap (λ (m : ℕ). replicate m 0) rest)

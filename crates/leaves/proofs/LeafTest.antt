@@ -18,9 +18,9 @@ pub no_entry_lem : (bs : List ℕ) (e : Entry) (r : Bool) → posted e ≡ entry
 no_entry_lem bs e r says count is d = (λ t. absurd (false≢true (sym is ∙ t)), λ leaf. d.1 (says_entry bs e says count leaf))
 
 -- bytes that say an entry are its leaf if they are what it writes
-pub compared : (bs back : List ℕ) (e : Entry) (r : Bool) → posted e ≡ entry_on bs → IsEntry e → back ≡ leaf_of (posted e) → Decides r (back ≡ bs) → Decides r (IsLeaf bs)
-compared bs back e r says ok is d =
-    (λ t. (posted e, ok.lawful, sym (d.0 t) ∙ is), λ leaf. d.1 (is ∙ ap (λ (x : Posted). leaf_of x) says ∙ writes_back bs leaf))
+pub compared : (bs : List ℕ) (e : Entry) (r : Bool) → posted e ≡ entry_on bs → IsEntry e → Decides r (leaf_of (posted e) ≡ bs) → Decides r (IsLeaf bs)
+compared bs e r says ok d =
+    (λ t. (posted e, ok.lawful, sym (d.0 t)), λ leaf. d.1 (ap (λ (x : Posted). leaf_of x) says ∙ writes_back bs leaf))
 
 -- a leaf is the leaf of its entry, and so is a leaf
 pub own_leaf : (bs : List ℕ) → IsLeaf bs → IsLeafOfItsEntry bs

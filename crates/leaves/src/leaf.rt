@@ -20,17 +20,11 @@ fn account_places(pairs: &[Pair]) -> [u8; MAX_PAIRS]
     requires { length pairs.now ≤ 16 }
     ensures { result ≡ padded 16 (account_bytes pairs.now) }
 {
-    array::from_fn(
-        |j|
-            ensures { result ≡ option_map_or (λ pair. pair.account) (slice_get pairs.entry.now j) 0 }
-        { pairs.get(j).map_or(0, |pair| pair.account) },
-    )
-}
-
-fn value_on_leaf(pair: &Pair) -> [u8; 8]
-    ensures { result ≡ signed_bytes pair.now.value }
-{
-    pair.value.to_be_bytes()
+    let mut places = [0; MAX_PAIRS];
+    for (j, pair) in pairs.iter().enumerate() {
+        places[j] = pair.account;
+    }
+    places
 }
 
 // The values of the pairs, and then zeros.
@@ -38,11 +32,11 @@ fn value_places(pairs: &[Pair]) -> [[u8; 8]; MAX_PAIRS]
     requires { length pairs.now ≤ 16 }
     ensures { flat_map (λ bytes. bytes) result ≡ padded 128 (value_bytes pairs.now) }
 {
-    array::from_fn(
-        |j|
-            ensures { result ≡ option_map_or (λ pair. signed_bytes pair.value) (slice_get pairs.entry.now j) (replicate 8 0) }
-        { pairs.get(j).map_or([0; 8], value_on_leaf) },
-    )
+    let mut places = [[0; 8]; MAX_PAIRS];
+    for (j, pair) in pairs.iter().enumerate() {
+        places[j] = pair.value.to_be_bytes();
+    }
+    places
 }
 
 // The leaf of an entry.
@@ -143,12 +137,19 @@ pub(crate) fn decode(leaf: &[u8; LEAF]) -> Entry
     }
 }
 
+// Whether the bytes are the leaf of the entry.
+fn is_leaf_of(leaf: &[u8; LEAF], e: &Entry) -> bool
+    ensures { Decides result (leaf_of (posted e.now) ≡ leaf.now) }
+{
+    encode(e) == *leaf
+}
+
 // Whether 160 bytes are the leaf of some entry: what they say is an entry, and its leaf has the same bytes.
 pub(crate) fn is_leaf(leaf: &[u8; LEAF]) -> bool
     ensures { Decides result (IsLeaf leaf.now) }
 {
     let e = decode(leaf);
-    is_entry(&e) && encode(&e) == *leaf
+    is_entry(&e) && is_leaf_of(leaf, &e)
 }
 
 // The laws of the leaf: its bytes are those of its parts, an entry reads back from its leaf, and a leaf is written back

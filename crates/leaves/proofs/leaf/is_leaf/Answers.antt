@@ -1,13 +1,10 @@
 use Rattle.std.proofs.Common.{refl}
-use Rattle.std.proofs.lemmas.Slice.Eq.{slice_eq-Decides}
-use Rattle.std.proofs.lemmas.Bool.Decides.{Decides-eqb}
 use Rattle.leaves.proofs.LeafTest.{no_entry_lem, compared}
 use Rattle.leaves.proofs.leaf.is_leaf.Goals as goal
 
 pub returns-then-is_entry : goal.returns-then-is_entry
 returns-then-is_entry c =
-    compared c.args.leaf.now c.encode.result c.decode-e.result c.eq.result c.decode-e.ensures.says
-    (c.if-is_entry.ensures.decides.0 refl) c.encode.ensures (slice_eq-Decides Decides-eqb _ _ _ c.eq.ensures)
+    compared c.args.leaf.now c.decode-e.result c.is_leaf_of.result c.decode-e.ensures.says (c.if-is_entry.ensures.decides.0 refl) c.is_leaf_of.ensures
 
 pub returns-else-is_entry : goal.returns-else-is_entry
 returns-else-is_entry c =
