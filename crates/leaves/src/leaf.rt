@@ -1,10 +1,9 @@
 // An entry on a leaf of 160 bytes. Each field is written and read once.
-ghost use Rattle.std.specs.Prelude.{◌≡◌, ℕ, ◌+◌, ◌*◌, ◌<◌, ◌≤◌, length, drop, replicate, Decides, slice_index};
-ghost use Rattle.std.specs.Option.{option_map_or};
+ghost use Rattle.std.specs.Prelude.{◌≡◌, ℕ, ◌+◌, ◌*◌, ◌<◌, ◌≤◌, length, drop, Decides, slice_index};
 ghost use Rattle.std.specs.List.{flat_map, slice_get};
 ghost use Rattle.journal.specs.Entries.{posted};
 ghost use Rattle.journal.specs.Readings.{id_of, given_in};
-ghost use Rattle.leaves.specs.Leaf.{account_bytes, value_bytes, signed_bytes, padded, leaf_of, signed_of, pairs_on, entry_on, IsLeaf, ReadsBack, WritesBack};
+ghost use Rattle.leaves.specs.Leaf.{account_bytes, value_bytes, padded, leaf_of, signed_of, pairs_on, entry_on, IsLeaf, ReadsBack, WritesBack};
 
 use journal::{Entry, MAX_PAIRS, Pair, PostingId, is_entry};
 use std::array;
@@ -15,7 +14,8 @@ pub const LEAF: usize = 160;
 // How many of them stand before the accounts.
 const HEAD: usize = 16;
 
-// The accounts of the pairs, and then zeros.
+// The accounts of the pairs, and then zeros. The loop writes only the pairs that count: `from_fn` would test each of the
+// sixteen places, which costs more on most leaves.
 fn account_places(pairs: &[Pair]) -> [u8; MAX_PAIRS]
     requires { length pairs.now ≤ 16 }
     ensures { result ≡ padded 16 (account_bytes pairs.now) }
@@ -27,7 +27,7 @@ fn account_places(pairs: &[Pair]) -> [u8; MAX_PAIRS]
     places
 }
 
-// The values of the pairs, and then zeros.
+// The values of the pairs, and then zeros, by such a loop too.
 fn value_places(pairs: &[Pair]) -> [[u8; 8]; MAX_PAIRS]
     requires { length pairs.now ≤ 16 }
     ensures { flat_map (λ bytes. bytes) result ≡ padded 128 (value_bytes pairs.now) }
@@ -137,7 +137,8 @@ pub(crate) fn decode(leaf: &[u8; LEAF]) -> Entry
     }
 }
 
-// Whether the bytes are the leaf of the entry.
+// Whether the bytes are the leaf of the entry. It is apart from `is_leaf`, since there the compiler copies the leaf once
+// more before it compares.
 fn is_leaf_of(leaf: &[u8; LEAF], e: &Entry) -> bool
     ensures { Decides result (leaf_of (posted e.now) ≡ leaf.now) }
 {
