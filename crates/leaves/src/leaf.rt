@@ -137,8 +137,8 @@ pub(crate) fn decode(leaf: &[u8; LEAF]) -> Entry
     }
 }
 
-// Whether the bytes are the leaf of the entry. It is apart from `is_leaf`, since there the compiler copies the leaf once
-// more before it compares.
+// Whether the bytes are the leaf of the entry. It is apart from `is_leaf`, since there the compiler would also fill the
+// room of the copy with zeros before each copy is made.
 fn is_leaf_of(leaf: &[u8; LEAF], e: &Entry) -> bool
     ensures { Decides result (leaf_of (posted e.now) ≡ leaf.now) }
 {
