@@ -9,6 +9,7 @@ use journal::MOST_CENTS;
 fn decimal_in(field: &[u8]) -> Option<u64>
     ensures { Decimal field.now result }
 {
+    // Two arms, each of which an edit can turn by itself.
     match field {
         [] => return None,
         [b'0', _, ..] => return None,
