@@ -3,7 +3,7 @@ use Rattle.std.proofs.Common.{◌≡◌, ℕ, zero, suc, ◌+◌, ◌-◌, ◌<�
 use Rattle.std.specs.Option.{option_map}
 use Rattle.std.specs.Str.Parse.{digits_value}
 use Rattle.std.specs.Str.{bytes_eq}
-use Rattle.std.proofs.lemmas.Bool.{and_parts}
+use Rattle.std.proofs.lemmas.Bool.{and_parts, eqb-false}
 use Rattle.journal.specs.Entries.{InRange}
 use Rattle.batch.specs.declared.records.OrderLine.{OrderLine}
 use Rattle.batch.specs.declared.records.OrderLine.TheVariants as line
@@ -25,7 +25,7 @@ use Rattle.batch.specs.declared.cutting.Next.{Next}
 use Rattle.batch.specs.declared.judging.Judged.{Judged}
 use Rattle.batch.specs.Judging.{Judges, JudgesLine}
 use Rattle.batch.specs.Cuts.{fields_in, after_in, field_total, first_in, second_in, third_in, Lists}
-use Rattle.batch.specs.Parts.{fields, first_line, after_line}
+use Rattle.batch.specs.Parts.{onto, fields, first_line, after_line}
 use Rattle.batch.specs.Rules.{ask, order_in, said_by, room_for, seated, tested, judged}
 
 pub natural_bounds : (low high : ℕ) (f : List ℕ) (n : ℕ) → natural low high f ≡ Some n → (low ≤ n) × (n ≤ high)
@@ -200,6 +200,45 @@ listed_judged t s letter More fs h =
 no_mark : (t : Sizes) (s : Progress) (fs : List (List ℕ)) → mark_in (get_or fs 0 []) ≡ None → judged t s fs ≡ Err Form
 no_mark t s fs e = ap (λ o. tested t s (length fs) o (get_or fs 1 []) (get_or fs 2 []) (get_or fs 3 [])) e
 
+-- of nothing no mark can come
+pub empty_form : (t : Sizes) (s : Progress) (text : List ℕ) → length text ≡ 0 → judged t s (fields (first_line text)) ≡ Err Form
+empty_form t s [] l = refl
+empty_form t s (c ∷ cs) l = absurd (omega arith)
+
+-- only a posting's mark is a line by itself
+pub alone_form : (t : Sizes) (s : Progress) (letter : ℕ) → (letter_mark letter ≡ Some Posting → ⊥) → judged t s ((letter ∷ []) ∷ []) ≡ Err Form
+alone_form t s letter n = go (letter_mark letter) n
+  where
+    go : (o : Option Mark) → (o ≡ Some Posting → ⊥) → tested t s 1 o [] [] [] ≡ Err Form
+    go None h = refl
+    go (Some Begin) h = refl
+    go (Some Opening) h = refl
+    go (Some House) h = refl
+    go (Some Posting) h = absurd (h refl)
+    go (Some (Order k)) h = refl
+    go (Some Run) h = refl
+
+-- nor is more than one letter a mark
+
+long_mark : (t : Sizes) (s : Progress) (c d : ℕ) (ps : List (List ℕ)) → judged t s (onto c (onto d ps)) ≡ Err Form
+long_mark t s c d [] = refl
+long_mark t s c d (p ∷ ps) = refl
+
+pub unmarked : (t : Sizes) (s : Progress) (text : List ℕ) → 1 < length text → (get_or text 1 0 ≡ 44 → ⊥) → (get_or text 1 0 ≡ 10 → ⊥) → judged t s (fields (first_line text)) ≡ Err Form
+unmarked t s [] l n m = absurd (omega arith)
+unmarked t s (c ∷ []) l n m = absurd (omega arith)
+unmarked t s (c ∷ d ∷ cs) l n m =
+    let line = first_line cs in
+    subst (λ b. judged t s (fields (cond (eqb c 10) [] (c ∷ cond b [] (d ∷ line)))) ≡ Err Form) (sym (ne_eqb d 10 m))
+    (elim (eqb c 10) as (λ b. judged t s (fields (cond b [] (c ∷ d ∷ line))) ≡ Err Form) [
+      | true ↦ refl
+      | false ↦ subst (λ b. judged t s (cond (eqb c 44) ([] ∷ cond b ([] ∷ fields line) (onto d (fields line))) (onto c (cond b ([] ∷ fields line) (onto d (fields line))))) ≡ Err Form) (sym (ne_eqb d 44 n))
+          (elim (eqb c 44) as (λ b. judged t s (cond b ([] ∷ onto d (fields line)) (onto c (onto d (fields line)))) ≡ Err Form) [
+            | true ↦ refl
+            | false ↦ long_mark t s c d (fields line)
+          ])
+    ])
+
 pub record Begun (t : Sizes) (s : Progress) (text : List ℕ) (letter : ℕ) (fs : List (List ℕ)) (after : List ℕ) : Type 0 where
   pub said : judged t s (fields (first_line text)) ≡ judged t s ((letter ∷ []) ∷ fs)
   pub rest : (i : Item) → judged t s (fields (first_line text)) ≡ Ok i → after_line text ≡ after
@@ -263,3 +302,14 @@ judged_line t s text letter next (Ok j) b h =
     let e : judged t s (fields (first_line text)) ≡ Ok j.item = b.said ∙ h.item in
     record { item = e; rest = h.rest ∙ sym (b.rest j.item e); allowed = judged_allowed t s (fields (first_line text)) j.item e }
 judged_line t s text letter next (Err f) b h = b.said ∙ h
+
+-- a text whose second byte is no comma is refused, unless a line `P` comes first: a line feed there leaves the letter alone, any
+-- other byte lengthens the mark
+pub no_comma : (t : Sizes) (s : Progress) (text : List ℕ) → 1 < length text → (get_or text 1 0 ≡ 44 → ⊥) → (letter_mark (get_or text 0 0) ≡ Some Posting → ⊥)
+    → judged t s (fields (first_line text)) ≡ Err Form
+no_comma t s text l n p =
+    let P : Bool → Type 0 = λ b. eqb (get_or text 1 0) 10 ≡ b → judged t s (fields (first_line text)) ≡ Err Form in
+    (elim (eqb (get_or text 1 0) 10) as P [
+      | true ↦ λ h. (begun_feed t s text (drop 2 text) l (eqb-true (get_or text 1 0) 10 h) refl).said ∙ alone_form t s (get_or text 0 0) p
+      | false ↦ λ h. unmarked t s text l n (eqb-false (get_or text 1 0) 10 h)
+    ]) refl

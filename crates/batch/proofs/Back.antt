@@ -116,7 +116,7 @@ pick c k m n other e same next =
       | false ↦ λ q h. next h
     ]) refl e
 
-letter_back : (c : ℕ) (m : Mark) → letter_mark c ≡ Some m → c ≡ code m
+pub letter_back : (c : ℕ) (m : Mark) → letter_mark c ≡ Some m → c ≡ code m
 letter_back c m e =
     pick c 66 m Begin _ e refl (λ e. pick c 79 m Opening _ e refl (λ e. pick c 72 m House _ e refl (λ e. pick c 80 m Posting _ e refl (λ e. pick c 71 m Run _ e refl
     (λ e. pick c 84 m (Order Take) _ e refl (λ e. pick c 85 m (Order Join) _ e refl (λ e. pick c 83 m (Order Set) _ e refl (λ e. pick c 65 m (Order Raise) _ e refl

@@ -1,10 +1,14 @@
 // The tests of one line.
+//
+// The rules of the fields are compiled into `judge_line`, by `inline(always)`: of a rule that is called the item goes through
+// memory and is put together again, which every line pays for.
 ghost use Rattle.std.specs.Prelude.{◌≡◌, ◌+◌, [], ◌∷◌, Some, Ok, Err, MatchOption, MatchResult};
 ghost use Rattle.batch.specs.declared.items.Fault.TheVariants.{Form};
 ghost use Rattle.batch.specs.declared.items.Item.TheVariants.{Posts};
+ghost use Rattle.batch.specs.declared.cutting.Next.TheVariants.{Field, Line};
 ghost use Rattle.batch.specs.Marks.{letter_mark, field_count, stands as stands_in};
 ghost use Rattle.batch.specs.Progress.{start, entered};
-ghost use Rattle.batch.specs.Rules.{account_in, begins as begins_in, opens as opens_in, keeps as keeps_in, worker_in, order_in, orders as orders_in, runs as runs_in, said_by as said_in, room_for, tested as tested_in, seated as seated_in};
+ghost use Rattle.batch.specs.Rules.{account_in, begins as begins_in, opens as opens_in, keeps as keeps_in, worker_in, order_in, orders as orders_in, runs as runs_in, room_for, tested as tested_in, seated as seated_in};
 ghost use Rattle.batch.specs.Cuts.{field_total, first_in, second_in, third_in};
 ghost use Rattle.batch.specs.Judging.{Judges, JudgesLine, Accepts};
 
@@ -34,6 +38,9 @@ impl TryFrom<char> for Mark {
 
     ghost try_from_gives = { λ letter mark. MatchOption (letter_mark letter) (mark ≡ Err Form) (λ m. mark ≡ Ok m) };
 
+    // Called, so that the mark comes out of a table: in its caller each letter would be a jump of its own, and a processor
+    // often guesses wrong which one comes next.
+    #[inline(never)]
     fn try_from(letter: char) -> Result<Self, Fault> {
         match letter {
             'B' => Ok(Mark::Begin),
@@ -157,6 +164,7 @@ impl<'a> Reader<'a> {
     }
 
     // An item that has room, or else the fault.
+    #[inline(always)]
     fn seated(&self, item: Item) -> Result<Item, Fault>
         ensures { result ≡ seated_in self.now.sizes self.now.known (Ok item) }
     {
@@ -168,12 +176,14 @@ impl<'a> Reader<'a> {
         }
     }
 
+    #[inline(always)]
     fn worker_in(&self, field: &[u8]) -> Option<u8>
         ensures { result ≡ worker_in self.now.known field.now }
     {
         natural(field, 0, self.known.workers.saturating_sub(1) as u64).map(|worker| worker as u8)
     }
 
+    #[inline(always)]
     fn opens(&self, account: &[u8], value: &[u8]) -> Result<Item, Fault>
         ensures { result ≡ opens_in self.now.known account.now value.now }
     {
@@ -187,6 +197,7 @@ impl<'a> Reader<'a> {
         }))
     }
 
+    #[inline(always)]
     fn keeps(&self, house: &[u8], keeper: &[u8]) -> Result<Item, Fault>
         ensures { result ≡ keeps_in self.now.known house.now keeper.now }
     {
@@ -196,6 +207,7 @@ impl<'a> Reader<'a> {
         Ok(Item::Kept(keeper))
     }
 
+    #[inline(always)]
     fn runs(&self, worker: &[u8], count: &[u8]) -> Result<Item, Fault>
         ensures { result ≡ runs_in self.now.known worker.now count.now }
     {
@@ -207,37 +219,32 @@ impl<'a> Reader<'a> {
         }))
     }
 
-    // What the fields after the mark say, by the mark's rule, if there is room for it. Room is tested in the arms: after
-    // the match the items would be told apart again.
-    fn said_by(&self, mark: Mark, fields: &Fields<'_>) -> Result<Item, Fault>
-        requires { field_total fields.now + 1 ≡ field_count mark }
-        ensures { result ≡ seated_in self.now.sizes self.now.known (said_in self.now.known mark (first_in fields.now) (second_in fields.now) (third_in fields.now)) }
-    {
-        match (mark, fields) {
-            (Mark::Begin, Fields::Three(houses, workers, patience)) => begins(
-                houses, workers, patience,
-            ),
-            (Mark::Opening, Fields::Two(account, value)) => self.opens(account, value),
-            (Mark::House, Fields::Two(house, keeper)) => self.keeps(house, keeper),
-            (Mark::Posting, Fields::Zero) => self.seated(Item::Posts),
-            (Mark::Order(kind), Fields::One(field)) => self.seated(orders(kind, field)?),
-            (Mark::Run, Fields::Two(worker, count)) => self.seated(self.runs(worker, count)?),
-            // The count was tested, so that no other pair comes here, as the check has to prove.
-            _ => unreachable!(),
-        }
-    }
-
-    // What a line of this mark and these fields says.
+    // What a line of this mark and these fields says. The fields stand first in the pairs: where the line is cut their number
+    // is known, so that each rule follows its own cut, and nothing is stored for fields that are not there. Room is tested in
+    // the arms, since after the match the items would be told apart again.
     fn tested(&self, mark: Mark, fields: &Fields<'_>) -> Result<Item, Fault>
         ensures { result ≡ tested_in self.now.sizes self.now.known (field_total fields.now + 1) (Some mark) (first_in fields.now) (second_in fields.now) (third_in fields.now) }
     {
-        if fields.count() + 1 != mark.field_count() {
-            return Err(Fault::Form);
+        match (fields, mark) {
+            (Fields::Zero, Mark::Posting) if self.stands(mark) => self.seated(Item::Posts),
+            (Fields::One(field), Mark::Order(kind)) if self.stands(mark) => self.seated(orders(
+                kind, field,
+            )?),
+            (Fields::Two(account, value), Mark::Opening) if self.stands(mark) => self.opens(
+                account, value,
+            ),
+            (Fields::Two(house, keeper), Mark::House) if self.stands(mark) => self.keeps(
+                house, keeper,
+            ),
+            (Fields::Two(worker, count), Mark::Run) if self.stands(mark) => self.seated(self.runs(
+                worker, count,
+            )?),
+            (Fields::Three(houses, workers, patience), Mark::Begin) if self.stands(mark) => begins(
+                houses, workers, patience,
+            ),
+            _ if fields.count() + 1 == mark.field_count() => Err(Fault::Place),
+            _ => Err(Fault::Form),
         }
-        if !self.stands(mark) {
-            return Err(Fault::Place);
-        }
-        self.said_by(mark, fields)
     }
 
     // Whether a line `P` may stand here and has room.
@@ -253,12 +260,12 @@ impl<'a> Reader<'a> {
         Ok(())
     }
 
-    // What a line of this letter says that goes on with this.
-    fn judge_line(&self, letter: u8, next: Next<'a>) -> Result<Judged<'a>, Fault>
-        ensures { JudgesLine self.now.sizes self.now.known letter next.entry result }
+    // What a line says that begins with this letter and a comma, after which the text comes.
+    fn judge_line(&self, letter: u8, text: &'a [u8]) -> Result<Judged<'a>, Fault>
+        ensures { JudgesLine self.now.sizes self.now.known letter (Field text.entry) result }
     {
         let mark = Mark::try_from(letter as char)?;
-        let line = line_from(next);
+        let line = line_from(Next::Field(text));
         let item = self.tested(mark, &line.fields)?;
         Ok(Judged {
             item,
@@ -266,25 +273,29 @@ impl<'a> Reader<'a> {
         })
     }
 
-    // What the first line of the text that is left says. A line `P` is seen by its two bytes: without this quick way the
-    // reading of such lines takes half as long again and more.
+    // What a line `P` says, after which the text comes.
+    fn judge_posting(&self, rest: &'a [u8]) -> Result<Judged<'a>, Fault>
+        ensures { JudgesLine self.now.sizes self.now.known 80 (Line rest.entry) result }
+    {
+        self.posts()?;
+        Ok(Judged {
+            item: Item::Posts,
+            rest,
+        })
+    }
+
+    // What the first line of the text that is left says. Of all letters only `P` is a line by itself. Compiled into the loops of
+    // its two callers: so lines `P`, which are seen by their two bytes, take half as long.
+    #[inline(always)]
     pub(crate) fn judge(&self) -> Result<Judged<'a>, Fault>
         ensures { Judges self.now.sizes self.now.known self.now.rest.now result }
     {
-        if let [b'P', b'\n', rest @ ..] = self.rest {
-            self.posts()?;
-            return Ok(Judged {
-                item: Item::Posts,
-                rest,
-            });
+        match self.rest {
+            [b'P', b'\n', rest @ ..] => self.judge_posting(rest),
+            [b'P'] => self.judge_posting(&[]),
+            [letter, b',', text @ ..] => self.judge_line(*letter, text),
+            _ => Err(Fault::Form),
         }
-        let (letter, next) = match self.rest {
-            [letter, b',', rest @ ..] => (*letter, Next::Field(rest)),
-            [letter, b'\n', rest @ ..] => (*letter, Next::Line(rest)),
-            [letter] => (*letter, Next::Line(&[])),
-            _ => return Err(Fault::Form),
-        };
-        self.judge_line(letter, next)
     }
 
     // Past a line that was accepted.

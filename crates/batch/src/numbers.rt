@@ -1,4 +1,4 @@
-// The numbers that a field may write.
+// The numbers that a field may write. Compiled into each rule that reads one, where its bounds are known.
 ghost use Rattle.std.specs.Prelude.{◌≡◌, ℕ, ◌≤◌, IfSome};
 ghost use Rattle.batch.specs.Fields.{natural as natural_in, cents as cents_in, Decimal};
 
@@ -6,6 +6,7 @@ use journal::MOST_CENTS;
 
 // The number of which the field is the decimal text. A number above 10^15 may be answered none. A loop over the digits, since
 // a fold that stops would say the same test less plainly.
+#[inline(always)]
 fn decimal_in(field: &[u8]) -> Option<u64>
     ensures { Decimal field.now result }
 {
@@ -27,6 +28,7 @@ fn decimal_in(field: &[u8]) -> Option<u64>
 
 // The number from `low` to `high` that the field writes. The bounds are two numbers and no `RangeInclusive`, since that
 // may be used up, which its contracts would have to rule out.
+#[inline(always)]
 pub(crate) fn natural(field: &[u8], low: u64, high: u64) -> Option<u64>
     requires { high ≤ 1000000000000000 }
     ensures value { result ≡ natural_in low high field.now }
@@ -36,6 +38,7 @@ pub(crate) fn natural(field: &[u8], low: u64, high: u64) -> Option<u64>
 }
 
 // The cents from -10^15 to 10^15 that the field writes.
+#[inline(always)]
 pub(crate) fn cents(field: &[u8]) -> Option<i64>
     ensures { result ≡ cents_in field.now }
 {
