@@ -303,8 +303,8 @@ judged_line t s text letter next (Ok j) b h =
     record { item = e; rest = h.rest ∙ sym (b.rest j.item e); allowed = judged_allowed t s (fields (first_line text)) j.item e }
 judged_line t s text letter next (Err f) b h = b.said ∙ h
 
--- a text whose second byte is no comma is refused, unless a line `P` comes first: a line feed there leaves the letter alone, any
--- other byte lengthens the mark
+-- a text whose second byte is no comma is refused, if it does not begin with a posting's mark: a line feed there leaves the letter
+-- alone, any other byte lengthens the mark
 pub no_comma : (t : Sizes) (s : Progress) (text : List ℕ) → 1 < length text → (get_or text 1 0 ≡ 44 → ⊥) → (letter_mark (get_or text 0 0) ≡ Some Posting → ⊥)
     → judged t s (fields (first_line text)) ≡ Err Form
 no_comma t s text l n p =

@@ -61,6 +61,12 @@ unwritten_large f ds m e l n h k = omega (arith, read_grows m ds, ap (read_on 0)
 pub written_as : (f : List ℕ) (n : ℕ) → all_ascii_digits f ≡ true → 0 < length f → (get_or f 0 0 ≡ 48 → length f ≡ 1) → n ≡ read_on 0 f → n < 2 ^ 64 → f ≡ decimal n
 written_as f n d l z e b = sym (decimal-digits_value own f d l z (omega arith)) ∙ ap decimal (sym e)
 
+-- the text of 0
+pub written_zero : (f : List ℕ) → length f ≡ 1 → get_or f 0 0 ≡ 48 → f ≡ decimal 0
+written_zero [] l e = absurd (omega arith)
+written_zero (c ∷ []) l e = ap (λ x. x ∷ []) e ∙ sym (decimal_digit 0 (omega arith))
+written_zero (c ∷ d ∷ cs) l e = absurd (omega arith)
+
 -- one more digit
 
 pub read_more : (n : ℕ) (f : List ℕ) (i : ℕ) → i < length f → read_on n (drop i f) ≡ read_on 0 f → read_on (n * 10 + (get_or f i 0 - 48)) (drop (i + 1) f) ≡ read_on 0 f

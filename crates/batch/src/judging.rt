@@ -1,7 +1,7 @@
 // The tests of one line.
 //
-// The rules of the fields are compiled into `judge_line`, by `inline(always)`: of a rule that is called the item goes through
-// memory and is put together again, which every line pays for.
+// All that reads a line is compiled into `judge_line`. Of a function that is called the item goes through memory and is put
+// together again, which every line pays for; so those that the compiler would leave calls are `inline(always)`.
 ghost use Rattle.std.specs.Prelude.{◌≡◌, ◌+◌, [], ◌∷◌, Some, Ok, Err, MatchOption, MatchResult};
 ghost use Rattle.batch.specs.declared.items.Fault.TheVariants.{Form};
 ghost use Rattle.batch.specs.declared.items.Item.TheVariants.{Posts};
@@ -220,8 +220,9 @@ impl<'a> Reader<'a> {
     }
 
     // What a line of this mark and these fields says. The fields stand first in the pairs: where the line is cut their number
-    // is known, so that each rule follows its own cut, and nothing is stored for fields that are not there. Room is tested in
-    // the arms, since after the match the items would be told apart again.
+    // is known, so that each rule follows its own cut, and nothing is stored for fields that are not there. The place is tested in
+    // each arm, since an answer from before the match would be kept and tested there, and room too, since after the match the items
+    // would be told apart again. No line without fields comes here, as `judge` has told those; the rule has them all the same.
     fn tested(&self, mark: Mark, fields: &Fields<'_>) -> Result<Item, Fault>
         ensures { result ≡ tested_in self.now.sizes self.now.known (field_total fields.now + 1) (Some mark) (first_in fields.now) (second_in fields.now) (third_in fields.now) }
     {
@@ -247,7 +248,7 @@ impl<'a> Reader<'a> {
         }
     }
 
-    // Whether a line `P` may stand here and has room.
+    // Whether a line `P` may stand here and has room. The item is not answered, since it would be stored and read again.
     fn posts(&self) -> Result<(), Fault>
         ensures { MatchResult result (λ u. tested_in self.now.sizes self.now.known 1 (letter_mark 80) [] [] [] ≡ Ok Posts) (λ f. tested_in self.now.sizes self.now.known 1 (letter_mark 80) [] [] [] ≡ Err f) }
     {
@@ -285,7 +286,8 @@ impl<'a> Reader<'a> {
     }
 
     // What the first line of the text that is left says. Of all letters only `P` is a line by itself. Compiled into the loops of
-    // its two callers: so lines `P`, which are seen by their two bytes, take half as long.
+    // its two callers, so that lines `P`, which are seen by their two bytes, pay for no call: they take little more than half of the
+    // time.
     #[inline(always)]
     pub(crate) fn judge(&self) -> Result<Judged<'a>, Fault>
         ensures { Judges self.now.sizes self.now.known self.now.rest.now result }

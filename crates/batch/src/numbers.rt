@@ -1,4 +1,4 @@
-// The numbers that a field may write. Compiled into each rule that reads one, where its bounds are known.
+// The numbers that a field may write. The functions are compiled into the rules that read a number, as src/judging.rt says.
 ghost use Rattle.std.specs.Prelude.{◌≡◌, ℕ, ◌≤◌, IfSome};
 ghost use Rattle.batch.specs.Fields.{natural as natural_in, cents as cents_in, Decimal};
 
@@ -10,9 +10,10 @@ use journal::MOST_CENTS;
 fn decimal_in(field: &[u8]) -> Option<u64>
     ensures { Decimal field.now result }
 {
-    // Two arms, each of which an edit can turn by itself.
+    // 0 is told at once, since many fields are 0. Two arms refuse, so that an edit can turn each by itself.
     match field {
         [] => return None,
+        [b'0'] => return Some(0),
         [b'0', _, ..] => return None,
         _ => {}
     }
